@@ -1,0 +1,4 @@
+pub mod Rising
+pub mod Names
+pub mod Values
+pub mod Nodes

@@ -1,0 +1,24 @@
+//! The flat data of the protocol: names, lists, transactions, outcomes, blocks and messages.
+#![tactic(auto)]
+
+mod block;
+mod copies;
+mod fixed;
+mod growing;
+mod memory;
+mod message;
+mod name;
+mod rising;
+mod txn;
+mod values;
+
+pub use block::{Block, Blocks, Bodies, Body, Config, Txns};
+pub use copies::Copies;
+pub use fixed::FixedList;
+pub use growing::{Bytes, GrowingList, Text};
+pub use memory::OutOfMemory;
+pub use message::{Commit, Commits, Message, NewBlock, Node, NodeSet, Preds, Vote, Votes};
+pub use name::{Name, Names};
+pub use rising::{Ranked, RisingList};
+pub use txn::{Arg, Args, Kind, Known, Outcome, Outcomes, PeerSet, Reason, Recs, Txn, Writes};
+pub use values::{MAX, Values};
