@@ -2,3 +2,4 @@ pub mod Rising
 pub mod Names
 pub mod Values
 pub mod Nodes
+pub mod Fitting

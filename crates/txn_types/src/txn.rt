@@ -1,6 +1,7 @@
 ghost use Rattle.std.specs.Prelude.{◌≡◌};
+ghost use Rattle.txn_types.specs.Fitting.{fit_entries, is_fit};
 
-use crate::{FixedList, GrowingList, RisingList};
+use crate::{FixedList, GrowingList, MAX, RisingList};
 
 /// Which pairs of a block's transactions depend on each other: those of every conflict, or those that read what was written.
 #[derive(Clone, Copy, Debug, PartialEq, Eq)]
@@ -83,6 +84,29 @@ impl Outcome {
             Outcome::Commit(writes) => Outcome::Commit(writes.copy()),
             Outcome::Abort(reason) => Outcome::Abort(*reason),
         }
+    }
+
+    /// Whether it can be the outcome of the transaction: an abort, or an entry up to `MAX` for each record that it writes.
+    pub fn fits(&self, txn: &Txn) -> bool
+        ensures { result ≡ is_fit txn.now self.now }
+    {
+        match self {
+            Outcome::Commit(writes) => fit_entries(txn.writes.as_slice(), writes.as_slice()),
+            Outcome::Abort(_) => true,
+        }
+    }
+}
+
+fn fit_entries(records: &[u16], entries: &[Option<u64>]) -> bool
+    ensures { result ≡ fit_entries records.now entries.now }
+{
+    let [_, records @ ..] = records else {
+        return entries.is_empty();
+    };
+    match entries {
+        [] => false,
+        [None, entries @ ..] => fit_entries(records, entries),
+        [Some(value), entries @ ..] => *value <= MAX && fit_entries(records, entries),
     }
 }
 
