@@ -1,0 +1,10 @@
+pub mod Syntax
+pub mod State
+pub mod WellFormed
+pub mod Table
+pub mod Dependency
+pub mod Calls
+pub mod Meaning
+pub mod Running
+pub mod Outcomes
+pub mod Laws

@@ -1,0 +1,52 @@
+-- Outcome and effect, and the serial run.
+use Rattle.std.specs.Prelude.{ℕ, List, [], ◌∷◌, Option, Some, None, Ok, Err, map}
+use Rattle.std.specs.FinMap as map
+use Rattle.oxii_defs.specs.Syntax.{Stmts}
+use Rattle.oxii_defs.specs.State.{State, put}
+use Rattle.oxii_defs.specs.Calls.{Frame, call_in, fresh}
+use Rattle.oxii_defs.specs.Table.{Table, body_in}
+use Rattle.oxii_defs.specs.Running.{Answer, after_all}
+use Rattle.txn_types.specs.declared.txn.Txn.{Txn}
+use Rattle.txn_types.specs.declared.txn.Outcome.{Outcome}
+use Rattle.txn_types.specs.declared.txn.Outcome.TheVariants.{Commit, Abort}
+
+-- where the body ends, or why it stops
+unfoldable pub run : Stmts → Txn → State → Answer Frame
+run body t s = after_all (call_in s t) body (fresh t.writes)
+
+abbrev pub outcome_from : List ℕ → Answer Frame → Outcome
+outcome_from writes (Ok f) = Commit (map (map.get f.written) writes)
+outcome_from writes (Err r) = Abort r
+
+abbrev pub outcome : Stmts → Txn → State → Outcome
+outcome body t s = outcome_from t.writes (run body t s)
+
+-- s with one entry at r
+abbrev pub put_entry : State → ℕ → Option ℕ → State
+put_entry s r None = s
+put_entry s r (Some v) = put s r v
+
+abbrev pub put_all : State → List ℕ → List (Option ℕ) → State
+put_all s (r ∷ rest) (entry ∷ entries) = put_all (put_entry s r entry) rest entries
+put_all s _ _ = s
+
+-- s with the values of an outcome
+abbrev pub apply : State → Txn → Outcome → State
+apply s t (Commit entries) = put_all s t.writes entries
+apply s t (Abort r) = s
+
+-- what the transaction means in the state s, by the operations of the table
+abbrev pub outcome_in : Table → State → Txn → Outcome
+outcome_in table s t = outcome (body_in table t) t s
+
+abbrev pub after_txn : Table → State → Txn → State
+after_txn table s t = apply s t (outcome_in table s t)
+
+-- the serial run: the state and the outcomes of one transaction after another
+abbrev pub serial_state : Table → State → List Txn → State
+serial_state table s [] = s
+serial_state table s (t ∷ rest) = serial_state table (after_txn table s t) rest
+
+abbrev pub serial_outcomes : Table → State → List Txn → List Outcome
+serial_outcomes table s [] = []
+serial_outcomes table s (t ∷ rest) = outcome_in table s t ∷ serial_outcomes table (after_txn table s t) rest
