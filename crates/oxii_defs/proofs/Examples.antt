@@ -7,6 +7,10 @@ use Rattle.oxii_defs.specs.State.{State}
 use Rattle.oxii_defs.specs.Running.{value_of, truth_of, after}
 use Rattle.oxii_defs.specs.Outcomes.{run, outcome}
 use Rattle.oxii_defs.specs.Dependency.{graph_of}
+use Rattle.oxii_defs.specs.BlockBytes.{txn_bytes, body_bytes}
+use Rattle.oxii_defs.specs.Lines.{outcome_text}
+use Rattle.oxii_defs.specs.FirstForm.{bank_table, transfer_txn}
+use Rattle.std.specs.Prelude.{codes}
 use Rattle.txn_types.specs.declared.txn.Arg.{Arg}
 use Rattle.txn_types.specs.declared.txn.Arg.TheVariants as arg
 use Rattle.txn_types.specs.declared.txn.Reason.TheVariants as reason
@@ -102,3 +106,16 @@ graph_full = refl
 -- a write after a write is no pair of kind raw
 pub graph_raw : graph_of Raw (one_to_two ∷ one_to_two ∷ two_to_one ∷ []) ≡ [] ∷ [] ∷ (0 ∷ 1 ∷ []) ∷ []
 graph_raw = refl
+
+-- BYTES AND LINES
+
+pub transfer_bytes : txn_bytes bank_table (transfer_txn 4)
+    ≡ 4 ∷ 98 ∷ 97 ∷ 110 ∷ 107 ∷ 8 ∷ 116 ∷ 114 ∷ 97 ∷ 110 ∷ 115 ∷ 102 ∷ 101 ∷ 114 ∷ 3 ∷ 1 ∷ 1 ∷ 97 ∷ 1 ∷ 1 ∷ 98 ∷ 2 ∷ 0 ∷ 0 ∷ 0 ∷ 0 ∷ 0 ∷ 0 ∷ 0 ∷ 4 ∷ 2 ∷ 1 ∷ 97 ∷ 1 ∷ 98 ∷ 2 ∷ 1 ∷ 97 ∷ 1 ∷ 98 ∷ []
+transfer_bytes = refl
+
+pub config_bytes : body_bytes (record bank_table { peers = codes "p1" ∷ codes "p2" ∷ [] }) [] (Some (record { app = 0; agents = 1 ∷ []; tau = 1 }))
+    ≡ 0 ∷ 0 ∷ 0 ∷ 0 ∷ 4 ∷ 98 ∷ 97 ∷ 110 ∷ 107 ∷ 1 ∷ 2 ∷ 112 ∷ 50 ∷ 1 ∷ []
+config_bytes = refl
+
+pub abort_text : outcome_text bank_table (transfer_txn 4) (Abort reason.ZeroDivisor) ≡ codes "abort zero_divisor"
+abort_text = refl

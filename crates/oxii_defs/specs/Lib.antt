@@ -8,3 +8,8 @@ pub mod Meaning
 pub mod Running
 pub mod Outcomes
 pub mod Laws
+pub mod Lawful
+pub mod BlockBytes
+pub mod Chain
+pub mod Lines
+pub mod FirstForm
