@@ -52,11 +52,12 @@ txn_bytes table t =
     name_bytes (app_name table t.app) ++ name_bytes (op_name table t.app t.op)
     ++ args_bytes table t.args ++ records_bytes table t.reads ++ records_bytes table t.writes
 
+abbrev pub peers_bytes : Table → List ℕ → List ℕ
+peers_bytes table ps = length ps ∷ flat_map (λ p. name_bytes (peer_name table p)) ps
+
 -- the name of the application, the names of the agents, and tau
 abbrev pub config_bytes : Table → Config → List ℕ
-config_bytes table c =
-    name_bytes (app_name table c.app)
-    ++ length c.agents ∷ flat_map (λ p. name_bytes (peer_name table p)) c.agents ++ c.tau ∷ []
+config_bytes table c = name_bytes (app_name table c.app) ++ peers_bytes table c.agents ++ c.tau ∷ []
 
 -- the count of transactions and the transactions, or a count of 0 and the configuration
 abbrev pub body_bytes : Table → List Txn → Option Config → List ℕ

@@ -146,7 +146,7 @@ bank_table = record {
 
 -- the state at the start
 abbrev pub genesis_of : Transfer → State
-genesis_of d = put (put map.empty 0 d.a) 1 d.b
+genesis_of d = put (put map.empty 1 d.b) 0 d.a
 
 -- a transfer from a to b
 abbrev pub transfer_txn : ℕ → Txn

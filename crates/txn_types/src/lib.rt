@@ -3,22 +3,29 @@
 
 mod block;
 mod copies;
+mod event;
 mod fixed;
 mod growing;
 mod memory;
 mod message;
 mod name;
 mod rising;
+mod stream;
 mod txn;
 mod values;
 
 pub use block::{Block, Blocks, Bodies, Body, Config, Txns};
 pub use copies::Copies;
+pub use event::{Event, Events, Items};
 pub use fixed::FixedList;
 pub use growing::{Bytes, GrowingList, Text};
 pub use memory::OutOfMemory;
 pub use message::{Commit, Commits, Message, NewBlock, Node, NodeSet, Preds, Vote, Votes};
 pub use name::{Name, Names};
 pub use rising::{Ranked, RisingList};
+pub use stream::{
+    Admitted, CutLimits, Item, ItemList, Piece, RecordList, Reject, Rejected, Rejects, Request,
+    RequestArgs,
+};
 pub use txn::{Arg, Args, Kind, Known, Outcome, Outcomes, PeerSet, Reason, Recs, Txn, Writes};
 pub use values::{MAX, Values};

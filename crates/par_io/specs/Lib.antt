@@ -1,0 +1,5 @@
+pub mod Causes
+pub mod Counted
+pub mod Memory
+pub mod Reading
+pub mod Writing
