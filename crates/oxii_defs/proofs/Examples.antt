@@ -1,5 +1,5 @@
 -- Worked rows of single calls, each computed from the definitions.
-use Rattle.std.proofs.Common.{◌≡◌, ℕ, true, false, List, [], ◌∷◌, Some, None, refl}
+use Rattle.std.proofs.Common.{◌≡◌, ℕ, List, [], ◌∷◌, Some, None, refl}
 use Rattle.std.specs.FinMap as map
 use Rattle.std.specs.FinMap.{gets}
 use Rattle.oxii_defs.specs.Syntax.{Add, Sub, Div, Ge, Gt, Num, Param, Rec, Calc, Cmp, Stmts, SetRec, Require, If, Done, Then}

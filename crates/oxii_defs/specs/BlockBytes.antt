@@ -1,5 +1,5 @@
 -- The bytes of a block, and its hash. Numbers stand high byte first.
-use Rattle.std.specs.Prelude.{ℕ, ◌+◌, List, [], ◌∷◌, ◌++◌, length, map, Option, Some, None}
+use Rattle.std.specs.Prelude.{ℕ, List, [], ◌∷◌, ◌++◌, length, map, Option, Some, None}
 use Rattle.std.specs.List.{flat_map, slice_index_or}
 use Rattle.std.specs.Int.{w32, w64, to_be_bytes}
 use Rattle.sha2.specs.Sha256.{sha256}
@@ -9,7 +9,7 @@ use Rattle.txn_types.specs.declared.txn.Txn.{Txn}
 use Rattle.txn_types.specs.declared.block.Config.{Config}
 use Rattle.txn_types.specs.declared.block.Block.{Block}
 use Rattle.oxii_defs.specs.Syntax.{Name, Op}
-use Rattle.oxii_defs.specs.Table.{App, Table}
+use Rattle.oxii_defs.specs.Table.{Table}
 
 -- NAMES OF WHAT IS NUMBERED
 

@@ -1,5 +1,5 @@
 -- The chain: blocks numbered from 1 on, each with the hash of the one before.
-use Rattle.std.specs.Prelude.{◌≡◌, ℕ, suc, List, [], ◌∷◌, replicate}
+use Rattle.std.specs.Prelude.{ℕ, suc, List, [], ◌∷◌, replicate}
 use Rattle.txn_types.specs.declared.block.Block.{Block}
 use Rattle.txn_types.specs.declared.block.Body.{Body}
 use Rattle.oxii_defs.specs.Table.{Table}

@@ -1,5 +1,5 @@
 -- The documents that are read so far: one peer, one application, and at most one transfer.
-use Rattle.std.specs.Prelude.{◌≡◌, ◌≤◌, ◌<◌, ℕ, ◌*◌, List, [], ◌∷◌, ◌++◌, length, Bool, Option, Some, None, codes, if◌then◌else◌}
+use Rattle.std.specs.Prelude.{◌≡◌, ℕ, ◌*◌, List, [], ◌∷◌, ◌++◌, length, Option, Some, None, codes, if◌then◌else◌}
 use Rattle.std.specs.Str.{is_utf8}
 use Rattle.serde_json.specs.Data.{unsigned, Data, number, string, array, object, Items, no_items, item, Members, no_members, member}
 use Rattle.serde_json.specs.Read.{read}
@@ -9,7 +9,7 @@ use Rattle.txn_types.specs.declared.txn.Txn.{Txn}
 use Rattle.txn_types.specs.declared.txn.Kind.TheVariants.{Full}
 use Rattle.txn_types.specs.declared.block.Body.{Body}
 use Rattle.txn_types.specs.declared.block.Block.{Block}
-use Rattle.oxii_defs.specs.Syntax.{Name, Sub, Add, Param, Rec, Calc, SetRec, Stmts, Done, Then, RecKind, NumKind, Formal, Op}
+use Rattle.oxii_defs.specs.Syntax.{Sub, Add, Param, Rec, Calc, SetRec, Done, Then, RecKind, NumKind, Op}
 use Rattle.oxii_defs.specs.State.{State, put}
 use Rattle.oxii_defs.specs.Table.{App, Table}
 use Rattle.oxii_defs.specs.Chain.{chain}
@@ -63,20 +63,27 @@ object_node ms = object (members_of ms)
 abbrev pub contract_text : List ℕ
 contract_text = codes "op transfer(from:record,to:record,n:number){from=from-n;to=to+n;}"
 
-abbrev pub bank_node : Data
-bank_node = object_node
-    ((codes "agents", list_node (text_node (codes "p1") ∷ []))
-    ∷ (codes "clients", list_node (text_node (codes "c1") ∷ []))
+-- a list of one text
+abbrev pub one_node : List ℕ → Data
+one_node text = list_node (text_node text ∷ [])
+
+abbrev pub apps_node : Data
+apps_node = list_node (object_node
+    ((codes "agents", one_node (codes "p1"))
+    ∷ (codes "clients", one_node (codes "c1"))
     ∷ (codes "contract", text_node contract_text)
     ∷ (codes "name", text_node (codes "bank"))
     ∷ (codes "tau", number_node 1)
-    ∷ [])
+    ∷ []) ∷ [])
 
 abbrev pub cut_node : Data
 cut_node = object_node ((codes "bytes", number_node 1048576) ∷ (codes "txns", number_node 256) ∷ [])
 
 abbrev pub record_node : List ℕ → ℕ → Data
 record_node name value = list_node (text_node name ∷ number_node value ∷ [])
+
+abbrev pub records_node : ℕ → ℕ → Data
+records_node a b = list_node (record_node (codes "a") a ∷ record_node (codes "b") b ∷ [])
 
 -- both records, as a set
 abbrev pub both_node : Data
@@ -96,20 +103,21 @@ abbrev pub stream_node : Option ℕ → Data
 stream_node None = list_node []
 stream_node (Some amount) = list_node (request_node amount ∷ [])
 
-abbrev pub all_node : Data
-all_node = object_node ((codes "do", text_node (codes "all")) ∷ [])
+-- each message comes to each peer
+abbrev pub schedule_node : Data
+schedule_node = list_node (object_node ((codes "do", text_node (codes "all")) ∷ []) ∷ [])
 
 abbrev pub document_node : Transfer → Data
 document_node d = object_node
-    ((codes "apps", list_node (bank_node ∷ []))
+    ((codes "apps", apps_node)
     ∷ (codes "cut", cut_node)
     ∷ (codes "faulty", list_node [])
     ∷ (codes "kind", text_node (codes "full"))
-    ∷ (codes "orderers", list_node (text_node (codes "o1") ∷ []))
-    ∷ (codes "peers", list_node (text_node (codes "p1") ∷ []))
+    ∷ (codes "orderers", one_node (codes "o1"))
+    ∷ (codes "peers", one_node (codes "p1"))
     ∷ (codes "quorum", number_node 1)
-    ∷ (codes "records", list_node (record_node (codes "a") d.a ∷ record_node (codes "b") d.b ∷ []))
-    ∷ (codes "schedule", list_node (all_node ∷ []))
+    ∷ (codes "records", records_node d.a d.b)
+    ∷ (codes "schedule", schedule_node)
     ∷ (codes "stream", stream_node d.amount)
     ∷ (codes "version", number_node 1)
     ∷ [])

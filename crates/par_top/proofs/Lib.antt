@@ -1,0 +1,9 @@
+pub mod FormLemmas
+pub mod Trees
+pub mod BankLemmas
+pub mod BankLawful
+pub mod LineSteps
+pub mod FoldLemmas
+pub mod TextLemmas
+pub mod WordLemmas
+pub mod Complete

@@ -1,0 +1,113 @@
+//! The blocks of the chain, run one after another as one peer runs them, with their lines.
+
+ghost use Rattle.std.specs.Prelude.{◌≡◌, ◌≤◌, ◌<◌, ◌++◌, ◌+◌, ◌^◌, [], ◌∷◌, length, IfOk, OnOk};
+ghost use Rattle.std.specs.List.{All, flat_map};
+ghost use Rattle.oxii_defs.specs.Table.{IsLawfulTxn};
+ghost use Rattle.oxii_defs.specs.Lawful.{IsLawfulTable};
+ghost use Rattle.oxii_defs.specs.Chain.{IsLawfulBlock};
+ghost use Rattle.oxii_defs.specs.Outcomes.{serial_state, serial_outcomes};
+ghost use Rattle.oxii_defs.specs.Lines.{entry_lines, ledger_of, state_after, peer_line, serial_part};
+ghost use Rattle.txn_core.specs.MeantTable.{table_of};
+ghost use Rattle.txn_core.specs.States.{state_of};
+
+use crate::Gate;
+use crate::lines::{push_entry_lines, push_number};
+use crate::state::push_state;
+use std::alloc::Global;
+use txn_core::{Block, OutOfMemory, Outcomes, Scratch, Table, Text, Txn, Values, run_one};
+
+// The transactions of block `number`, one after another. After an `Err` the values are of no use.
+fn run_txns<G: Gate>(
+    alloc: Global,
+    table: &Table,
+    number: u64,
+    txns: &[Txn],
+    values: &mut Values,
+    gate: &G,
+) -> Result<Outcomes, OutOfMemory>
+    requires table { IsLawfulTable (table_of table.now) }
+    requires lawful { All (IsLawfulTxn (table_of table.now)) txns.now }
+    requires short { length txns.now ≤ 256 }
+    requires records { length values.old ≡ length table.now.records }
+    ensures outcomes { IfOk result (λ outcomes. outcomes ≡ serial_outcomes (table_of table.now) (state_of values.old) txns.now) }
+    ensures state { OnOk result (state_of values.new ≡ serial_state (table_of table.now) (state_of values.old) txns.now) }
+    ensures length { OnOk result (length values.new ≡ length values.old) }
+{
+    let mut scratch = Scratch::new();
+    let mut outcomes = Outcomes::new(alloc);
+    let mut t = 0u16;
+    for txn in txns {
+        gate.begin(number, t);
+        let outcome = run_one(table, txn, values, &mut scratch);
+        gate.end(number, t);
+        outcomes.push(outcome)?;
+        t += 1;
+    }
+    Ok(outcomes)
+}
+
+// The lines of the blocks, with the outcomes of their run from these values on.
+#[tactic(auto, using(crate::proofs::FoldLemmas::txns_lawful, crate::proofs::FoldLemmas::txns_few, crate::proofs::FoldLemmas::outcomes_many))]
+fn push_blocks<G: Gate>(
+    alloc: Global,
+    text: &mut Text,
+    table: &Table,
+    blocks: &[Block],
+    values: &mut Values,
+    gate: &G,
+) -> Result<(), OutOfMemory>
+    requires table { IsLawfulTable (table_of table.now) }
+    requires lawful { All (IsLawfulBlock (table_of table.now)) blocks.now }
+    requires records { length values.old ≡ length table.now.records }
+    ensures lines { OnOk result (text.new ≡ text.old ++ flat_map (entry_lines (table_of table.now)) (ledger_of (table_of table.now) (state_of values.old) blocks.now)) }
+    ensures state { OnOk result (state_of values.new ≡ state_after (table_of table.now) (state_of values.old) blocks.now) }
+    ensures length { OnOk result (length values.new ≡ length values.old) }
+{
+    for block in blocks {
+        let outcomes = run_txns(
+            alloc,
+            table,
+            block.number,
+            block.txns.as_slice(),
+            values,
+            gate,
+        )?;
+        push_entry_lines(text, table, block, outcomes.as_slice())?;
+    }
+    Ok(())
+}
+
+// The line `peer NAME completed C`.
+#[tactic(auto, unfolding(oxii_defs::specs::Lines::peer_line))]
+fn push_peer_line(text: &mut Text, table: &Table, peer: u8, count: u64) -> Result<(), OutOfMemory>
+    requires { peer < length table.now.peers }
+    ensures { OnOk result (text.new ≡ text.old ++ peer_line (table_of table.now) peer count) }
+{
+    text.append(b"peer ")?;
+    text.append(table.peer_name(peer).as_slice())?;
+    text.append(b" completed ")?;
+    push_number(text, count)?;
+    text.append(b"\n")
+}
+
+/// The part of a peer that completes these blocks from these values on.
+pub fn push_peer<G: Gate>(
+    alloc: Global,
+    text: &mut Text,
+    table: &Table,
+    peer: u8,
+    blocks: &[Block],
+    values: &mut Values,
+    gate: &G,
+) -> Result<(), OutOfMemory>
+    requires table { IsLawfulTable (table_of table.now) }
+    requires lawful { All (IsLawfulBlock (table_of table.now)) blocks.now }
+    requires records { length values.old ≡ length table.now.records }
+    requires peer { peer < length table.now.peers }
+    ensures { OnOk result (text.new ≡ text.old ++ serial_part (table_of table.now) (state_of values.old) peer blocks.now) }
+{
+    push_peer_line(text, table, peer, blocks.len() as u64)?;
+    push_blocks(alloc, text, table, blocks, values, gate)?;
+    push_state(text, table, values)?;
+    Ok(())
+}

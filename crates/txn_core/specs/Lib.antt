@@ -1,0 +1,16 @@
+pub mod Frames
+pub mod Meant
+pub mod MeantCalls
+pub mod MeantTable
+pub mod Forms
+pub mod Slots
+pub mod Checked
+pub mod CheckForms
+pub mod States
+pub use Rattle.oxii_defs.specs.State
+pub use Rattle.oxii_defs.specs.WellFormed
+pub use Rattle.oxii_defs.specs.Table
+pub use Rattle.oxii_defs.specs.Lawful
+pub use Rattle.oxii_defs.specs.Outcomes
+pub use Rattle.txn_types.specs.Fitting
+pub use Rattle.txn_types.specs.Values

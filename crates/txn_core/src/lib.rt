@@ -1,0 +1,27 @@
+//! The contract language: its syntax, the table of a document, and the evaluator of operations.
+#![tactic(auto)]
+
+mod check;
+mod eval;
+mod names;
+mod run;
+mod scratch;
+mod serial;
+mod syntax;
+mod table;
+#[cfg(test)]
+mod tests;
+
+pub use check::{is_well_formed, takes};
+pub use run::run_txn;
+pub use scratch::Scratch;
+pub use serial::{apply_to, inputs_of, outcome_at, run_one, run_serial};
+pub use syntax::{Calc, Cmp, Cond, Expr, Op, Ops, Param, ParamKind, Params, Stmt, Stmts};
+pub use table::{App, Apps, Table, op_named};
+pub use txn_types::{
+    Admitted, Arg, Args, Block, Blocks, Bodies, Body, Bytes, Commit, Commits, Config, Copies,
+    CutLimits, Event, Events, FixedList, GrowingList, Item, ItemList, Items, Kind, Known, MAX,
+    Message, Name, Names, NewBlock, Node, NodeSet, OutOfMemory, Outcome, Outcomes, PeerSet, Piece,
+    Preds, Ranked, Reason, RecordList, Recs, Reject, Rejected, Rejects, Request, RequestArgs,
+    RisingList, Text, Txn, Txns, Values, Vote, Votes, Writes,
+};
