@@ -17,7 +17,8 @@ use txn_core::{
     ParamKind, Params, PeerSet, Recs, Stmt, Stmts, Table, Txn, Txns, Values,
 };
 
-fn name(bytes: &[u8]) -> Name
+/// A name that is known to be one.
+pub fn name(bytes: &[u8]) -> Name
     requires { IsName bytes.now }
     ensures { result ≡ bytes.now }
 {

@@ -1,0 +1,11 @@
+pub mod Lexing
+pub mod Expressions
+pub mod Spelled
+pub mod Runs
+pub mod SoFar
+pub mod GoesOn
+pub mod Chains
+pub mod ChainEnds
+pub mod Meaning
+pub mod Determined
+pub mod Tallies

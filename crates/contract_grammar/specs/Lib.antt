@@ -1,0 +1,9 @@
+pub mod Lexer
+pub mod Tree
+pub mod Grammar
+pub mod Frames
+pub mod Modes
+pub mod Limits
+pub mod Faults
+pub mod Reading
+pub mod Laws

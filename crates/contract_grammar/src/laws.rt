@@ -1,0 +1,21 @@
+ghost use Rattle.contract_grammar.specs.Laws.{SentencesHaveOneTree, ReadingsAreMeant, ReadingsAreDetermined, TalliesCount};
+
+/// A sentence has one tree.
+pub fn sentences_have_one_tree()
+    ensures law { SentencesHaveOneTree }
+{}
+
+/// The reading of a text is what the grammar, the limits and the places of faults say.
+pub fn readings_are_meant()
+    ensures law { ReadingsAreMeant }
+{}
+
+/// A text is a contract with one tree, or has one first fault at one byte.
+pub fn readings_are_determined()
+    ensures law { ReadingsAreDetermined }
+{}
+
+/// What is counted of operations and commas over some tokens is their number.
+pub fn tallies_count()
+    ensures law { TalliesCount }
+{}

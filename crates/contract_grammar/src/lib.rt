@@ -1,0 +1,14 @@
+//! The contract language: its tokens, its grammar, its limits and the reading of a text.
+#![tactic(auto)]
+
+mod laws;
+mod lexer;
+mod token;
+mod tree;
+
+pub use laws::{
+    readings_are_determined, readings_are_meant, sentences_have_one_tree, tallies_count,
+};
+pub use lexer::tokens;
+pub use token::{Mark, Operator, Placed, Span, Token};
+pub use tree::{Expr, Head, Operation, Operations, Param, ParamKind, Params, Stmt, Stmts};

@@ -1,0 +1,22 @@
+-- What the reader answers.
+use Rattle.std.specs.Prelude.{◌≡◌, ℕ, List, length, Result, Ok, Err}
+use Rattle.contract_reader.specs.declared.fault.ReadFault.{ReadFault}
+use Rattle.contract_reader.specs.declared.fault.ReadFault.TheVariants as fault
+use Rattle.contract_grammar.specs.declared.tree.Operation.{Operation}
+use Rattle.contract_grammar.specs.Tree.{operations}
+use Rattle.contract_grammar.specs.Lexer.{tokens}
+use Rattle.contract_grammar.specs.Faults.{IsSyntaxFault, IsLimitFault}
+use Rattle.contract_grammar.specs.Reading.{Reading, reads, syntax_at, limit_at}
+
+-- this reading, unless memory runs out
+abbrev pub Gives : Result (List Operation) ReadFault → Reading → Type 0
+Gives (Ok ops) r = r ≡ reads (operations ops)
+Gives (Err (fault.Syntax at)) r = r ≡ syntax_at at
+Gives (Err (fault.Limit at)) r = r ≡ limit_at at
+Gives (Err fault.OutOfMemory) r = Unit {0}
+
+-- the fault of a text that comes first
+abbrev pub HasFault : List ℕ → ReadFault → Type 0
+HasFault text (fault.Syntax at) = IsSyntaxFault (tokens text) (length text) at
+HasFault text (fault.Limit at) = IsLimitFault (tokens text) at
+HasFault text fault.OutOfMemory = Unit {0}

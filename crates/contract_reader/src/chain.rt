@@ -1,0 +1,52 @@
+ghost use Rattle.std.specs.Prelude.{◌≡◌, nat_le};
+ghost use Rattle.contract_grammar.specs.Tree.{tree};
+ghost use Rattle.contract_grammar.specs.Limits.{chain, is_chain};
+ghost use Rattle.contract_grammar.specs.Reading.{is_chain_end, ends_chain};
+ghost use Rattle.contract_reader.specs.Views.{mode_of, state};
+
+use crate::expression::level;
+use crate::state::{Frame, Mode, Partial};
+use contract_grammar::{Expr, Operator};
+
+/// Whether a chain of this level has so many operators.
+fn reaches(own: u8, e: &Expr, count: u8) -> bool
+    ensures { result ≡ nat_le count (chain own (tree e.now)) }
+{
+    if count == 0 {
+        return true;
+    }
+    match e {
+        Expr::Binary(_, op, a, _) => level(*op) == own && reaches(own, a, count - 1),
+        Expr::Number(_, _) | Expr::Named(_, _) | Expr::Not(_, _) => false,
+    }
+}
+
+/// Whether operators like it make chains.
+fn is_chain(op: Operator) -> bool
+    ensures { result ≡ is_chain op }
+{
+    level(op) != 3
+}
+
+/// Whether the operator that was just read is the 33rd of its chain.
+fn is_chain_end(partial: &Partial) -> bool
+    ensures { result ≡ is_chain_end (state partial.now) }
+{
+    if partial.operand.is_some() {
+        return false;
+    }
+    match partial.frames.last() {
+        Some(Frame::Left(op, e)) => is_chain(*op) && reaches(level(*op), e, 32),
+        Some(Frame::Group(_)) | Some(Frame::Not(_)) | None => false,
+    }
+}
+
+/// The same of any mode.
+pub fn ends_chain(mode: &Mode) -> bool
+    ensures { result ≡ ends_chain (mode_of mode.now) }
+{
+    match mode {
+        Mode::Expr(_, partial) => is_chain_end(partial),
+        _ => false,
+    }
+}
