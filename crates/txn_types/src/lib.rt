@@ -11,6 +11,8 @@ mod message;
 mod name;
 mod rising;
 mod stream;
+#[cfg(test)]
+mod tests;
 mod txn;
 mod values;
 
