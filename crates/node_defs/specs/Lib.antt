@@ -1,0 +1,14 @@
+pub mod Same
+pub mod Counting
+pub mod Admission
+pub mod Cutting
+pub mod Rules
+pub mod Log
+pub mod Accepted
+pub mod Position
+pub mod Ledger
+pub mod Sent
+pub mod World
+pub mod Serial
+pub mod Tame
+pub mod Text

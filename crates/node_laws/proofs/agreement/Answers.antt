@@ -1,0 +1,5 @@
+use Rattle.node_laws.proofs.AgreeWorld.{agreement as agreement_law}
+use Rattle.node_laws.proofs.agreement.Goals as goal
+
+pub returns : goal.returns
+returns c = agreement_law

@@ -1,0 +1,5 @@
+use Rattle.node_laws.proofs.Ends.{all_ends as all_ends_law}
+use Rattle.node_laws.proofs.all_ends.Goals as goal
+
+pub returns : goal.returns
+returns c = all_ends_law

@@ -1,0 +1,5 @@
+use Rattle.node_laws.proofs.Conflicts.{conflict_order as conflict_order_law}
+use Rattle.node_laws.proofs.conflict_order.Goals as goal
+
+pub returns : goal.returns
+returns c = conflict_order_law

@@ -1,0 +1,5 @@
+use Rattle.node_laws.proofs.Cuttings.{one_cutting as one_cutting_law}
+use Rattle.node_laws.proofs.one_cutting.Goals as goal
+
+pub returns : goal.returns
+returns c = one_cutting_law

@@ -1,0 +1,5 @@
+use Rattle.node_laws.proofs.SerialPart.{serial_part_law}
+use Rattle.node_laws.proofs.serial_part.Goals as goal
+
+pub returns : goal.returns
+returns c = serial_part_law

@@ -1,0 +1,11 @@
+pub mod Growth
+pub mod ConflictOrder
+pub mod OneCutting
+pub mod Agreement
+pub mod OneWorld
+pub mod RowSettings
+pub mod Rows
+pub mod RowTexts
+pub mod OneText
+pub mod RowReal
+pub mod RowCuts

@@ -1,0 +1,65 @@
+//! The laws of the protocol: growth, conflict order, cutting and agreement.
+#![tactic(auto)]
+
+ghost use Rattle.node_laws.specs.Agreement.{Agreement, SerialPart};
+ghost use Rattle.node_laws.specs.ConflictOrder.{ConflictOrder};
+ghost use Rattle.node_laws.specs.Growth.{Growth};
+ghost use Rattle.node_laws.specs.OneCutting.{OneCutting, SomeCutting};
+ghost use Rattle.node_laws.specs.OneText.{OneText};
+ghost use Rattle.node_laws.specs.OneWorld.{AllEnds, OneWorld};
+ghost use Rattle.node_laws.specs.RowReal.{RowsAreReal, WorkedRows};
+
+/// What a log has accepted, run, agreed, known, believed and completed stays so for each longer log.
+pub fn growth()
+    ensures { Growth }
+{}
+
+/// A run of a plan along the dependencies has the outcomes of the serial run, for both kinds of graph.
+pub fn conflict_order()
+    ensures { ConflictOrder }
+{}
+
+/// Of one list of items there are no two cuttings.
+pub fn one_cutting()
+    ensures { OneCutting }
+{}
+
+/// Whatever is lost, repeated or reordered: where the input is tame, each vote, accepted block and known outcome is the chain's, and no peer is halted.
+pub fn agreement()
+    ensures { Agreement }
+{}
+
+/// Whatever is lost, repeated or reordered: where the input is tame, each peer's lines are those of the serial run of its completed blocks.
+pub fn serial_part()
+    ensures { SerialPart }
+{}
+
+/// Events lead to exactly one world.
+pub fn one_world()
+    ensures { OneWorld }
+{}
+
+/// The event `all` ends within a number of turns that the pool tells.
+pub fn all_ends()
+    ensures { AllEnds }
+{}
+
+/// Where a block has room for each transaction, a list of items has a cutting.
+pub fn some_cutting()
+    ensures { SomeCutting }
+{}
+
+/// An input has exactly one text.
+pub fn one_text()
+    ensures { OneText }
+{}
+
+/// A tame row that is told rightly comes to the same with the operations of its table.
+pub fn rows_are_real()
+    ensures { RowsAreReal }
+{}
+
+/// The worked rows come out of the definitions.
+pub fn worked_rows()
+    ensures { WorkedRows }
+{}
