@@ -4,6 +4,8 @@
 mod bytes;
 mod feed;
 mod links;
+#[cfg(test)]
+mod tests;
 
 pub use bytes::{block_bytes, block_hash};
 pub use links::chain;
