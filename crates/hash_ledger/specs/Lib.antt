@@ -5,3 +5,5 @@ pub use Rattle.oxii_defs.specs.BlockBytes
 pub use Rattle.oxii_defs.specs.Chain
 pub use Rattle.txn_core.specs.MeantTable
 pub mod Hashing
+pub use Rattle.txn_types.specs.Fitting
+pub mod Ledgers

@@ -1,13 +1,13 @@
-//! The bytes of a configuration block, with ample memory.
+//! The bytes of a configuration block, and a ledger of two, with ample memory.
 
-ghost use Rattle.std.specs.Prelude.{◌≡◌, [], ◌∷◌, length, IfOk};
+ghost use Rattle.std.specs.Prelude.{◌≡◌, [], ◌∷◌, length, Some, IfOk};
 ghost use Rattle.txn_core.specs.MeantTable.{table_of};
 
-use crate::block_bytes;
+use crate::{Ledger, block_bytes, block_hash};
 use std::alloc::Global;
 use std::test::Fail;
 use txn_core::{
-    App, Apps, Block, Config, Kind, Name, Names, Ops, OutOfMemory, PeerSet, Table, Txns,
+    App, Apps, Block, Config, Kind, Name, Names, Ops, OutOfMemory, Outcomes, PeerSet, Table, Txns,
 };
 
 // A table with one application and two peers.
@@ -44,23 +44,60 @@ fn second_peer() -> PeerSet
     peers
 }
 
-#[test]
-fn configurations_have_their_bytes(rt: HostRuntime) -> Result<(), Fail> {
-    let alloc = rt.alloc();
+fn bank(alloc: Global) -> Result<Table, Fail>
+    ensures peers { IfOk result (λ table. length table.peers ≡ 2) }
+    ensures apps { IfOk result (λ table. length (table_of table).apps ≡ 1) }
+{
     let app = Name::new(b"bank").ok_or("no name")?;
     let first = Name::new(b"p1").ok_or("no name")?;
     let second = Name::new(b"p2").ok_or("no name")?;
-    let table = table(alloc, app, first, second)?;
-    let block = Block {
-        number: 2,
-        prev: [9; 32],
+    Ok(table(alloc, app, first, second)?)
+}
+
+// A block that makes the second peer the only agent.
+fn change(alloc: Global, number: u64, prev: [u8; 32]) -> Block
+    ensures number { result.number ≡ number }
+    ensures prev { result.prev ≡ prev }
+    ensures txns { result.txns ≡ [] }
+    ensures config { result.config ≡ Some (record { app = 0; agents = 1 ∷ []; tau = 1 }) }
+{
+    Block {
+        number,
+        prev,
         txns: Txns::new(alloc),
         config: Some(Config {
             app: 0,
             agents: second_peer(),
             tau: 1,
         }),
-    };
+    }
+}
+
+#[test]
+fn blocks_are_linked(rt: HostRuntime) -> Result<(), Fail> {
+    let alloc = rt.alloc();
+    let table = bank(alloc)?;
+    let mut ledger = Ledger::new(alloc);
+    assert_eq!(rt; ledger.tip(), [0; 32]);
+    let first = change(alloc, 1, ledger.tip());
+    let first_hash = block_hash(&table, &first);
+    ledger.append(alloc, &table, first, Outcomes::new(alloc))?;
+    let second = change(alloc, 2, ledger.tip());
+    let second_hash = block_hash(&table, &second);
+    ledger.append(alloc, &table, second, Outcomes::new(alloc))?;
+    assert_eq!(rt; ledger.len(), 2);
+    assert_eq!(rt; ledger.tip(), second_hash);
+    assert_eq!(rt; ledger.hash(0), first_hash);
+    assert_eq!(rt; ledger.block(1).prev, first_hash);
+    assert_eq!(rt; ledger.outcomes(1).len(), 0);
+    Ok(())
+}
+
+#[test]
+fn configurations_have_their_bytes(rt: HostRuntime) -> Result<(), Fail> {
+    let alloc = rt.alloc();
+    let table = bank(alloc)?;
+    let block = change(alloc, 2, [9; 32]);
     let bytes = block_bytes(alloc, &table, &block)?;
     assert_eq!(rt; bytes.len(), 54);
     assert!(rt;

@@ -12,3 +12,4 @@ pub mod World
 pub mod Serial
 pub mod Tame
 pub mod Text
+pub mod GraphText

@@ -4,7 +4,7 @@ use Rattle.oxii_defs.specs.Chain.{no_hash, chain_from, chain as agreed_chain}
 use Rattle.std.specs.Prelude.{ℕ, ◌+◌, ◌<◌, ◌≡◌, Bool, true, false, cond, List, [], ◌∷◌, map, length, get_or, set, Option, Some, None, suc, zero, slice_get, refl, ◌==◌}
 use Rattle.std.specs.List.{AllByRecursion}
 use Rattle.std.proofs.Common.{sym, ◌∙◌, ap, subst, arith, replicate}
-use Rattle.std.proofs.lemmas.Bool.{true≢false}
+use Rattle.std.proofs.lemmas.Bool.{eqb-true, true≢false}
 use Rattle.std.proofs.lemmas.Option.{none-some, same_Some}
 use Rattle.known_defs.specs.Known.{no_outcome}
 use Rattle.node_defs.specs.Accepted.{accepted, tip}
@@ -143,12 +143,20 @@ agreed_at (p ∷ os) [] t o a h = absurd a
 agreed_at (p ∷ os) (x ∷ xs) zero o a h = a.0.agreed o h
 agreed_at (p ∷ os) (x ∷ xs) (suc t) o a h = agreed_at os xs t o a.1 h
 
-accepted_chain : (s : Setting) (chain : List Block) → Premises s chain → (p m : ℕ) (L : Log) → Sound s.rules chain (is_faulty s) L → (b : Block) → accepted_at s.rules p m L ≡ Some b → (m < length chain) × (b ≡ block_at chain m)
+pub accepted_chain : (s : Setting) (chain : List Block) → Premises s chain → (p m : ℕ) (L : Log) → Sound s.rules chain (is_faulty s) L → (b : Block) → accepted_at s.rules p m L ≡ Some b → (m < length chain) × (b ≡ block_at chain m)
 accepted_chain s chain h p m L good b e = one (length (completed s.rules p m L) == m) e
   where
     one : (c : Bool) → cond c (accepted s.rules (suc m) (tip s.rules (completed s.rules p m L)) L) None ≡ Some b → (m < length chain) × (b ≡ block_at chain m)
     one false k = absurd (none-some b k)
     one true k = accepted_right (in_force s.rules (serial_ledger s.rules chain m)) chain (is_faulty s) m (h.tame m).orderers h.numbered (tip s.rules (completed s.rules p m L)) L good b k
+
+-- behind it are the first blocks of the chain
+pub completed_chain : (s : Setting) (chain : List Block) → Premises s chain → (p m : ℕ) (L : Log) → Sound s.rules chain (is_faulty s) L → (b : Block) → accepted_at s.rules p m L ≡ Some b → completed s.rules p m L ≡ serial_ledger s.rules chain m
+completed_chain s chain h p m L good b e = one (length (completed s.rules p m L) == m) refl e
+  where
+    one : (c : Bool) → (length (completed s.rules p m L) == m) ≡ c → cond c (accepted s.rules (suc m) (tip s.rules (completed s.rules p m L)) L) None ≡ Some b → completed s.rules p m L ≡ serial_ledger s.rules chain m
+    one false q k = absurd (none-some b k)
+    one true q k = (ledger_right s.rules h.local chain (is_faulty s) h.tame h.numbered p m L good).0 ∙ ap (serial_ledger s.rules chain) (eqb-true _ _ q)
 
 with_chain : (s : Setting) → Premises s s.chain → (p : ℕ) (L : Log) → Sound s.rules s.chain (is_faulty s) L → IsWithChain s p L
 with_chain s h p L good =

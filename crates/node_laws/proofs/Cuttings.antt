@@ -43,7 +43,7 @@ calls [] z zs h a = absurd (omega arith)
 calls (x ∷ []) z zs h a = a
 calls (x ∷ y ∷ xs) z zs h a = a
 
-no_config : (x : Admitted) → IsCall x → ((c : Config) × (x.piece ≡ piece.Config c)) → ⊥
+pub no_config : (x : Admitted) → IsCall x → ((c : Config) × (x.piece ≡ piece.Config c)) → ⊥
 no_config x (t, e) (c, f) = apart t c (sym e ∙ f)
   where
     apart : (t : Txn) (c : Config) → piece.Call t ≡ piece.Config c → ⊥

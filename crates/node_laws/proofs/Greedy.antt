@@ -9,7 +9,6 @@ use Rattle.txn_types.specs.declared.stream.Piece.TheVariants as piece
 use Rattle.node_defs.specs.Cutting.{Admitted, EndRightly, EndsBefore, HasNoMark, IsAlone, IsCall, IsCutting, IsPart, bytes_in, BeginsWithConfig, last_marked, txns_in, txns_in_piece}
 use Rattle.node_laws.proofs.Cuttings.{count_calls}
 use Rattle.node_laws.proofs.Ends.{ends}
-use Rattle.node_laws.specs.OneCutting.{SomeCutting}
 use Rattle.oxii_defs.specs.BlockBytes.{txn_bytes}
 use Rattle.oxii_defs.specs.Table.{Table}
 use Rattle.txn_types.specs.declared.block.Config.{Config}
@@ -182,6 +181,3 @@ module _ (table : Table) (limits : CutLimits) where
       let f = fits_first x rest fits in
       let r = cut_well rest (x ∷ []) one (first_part x one f.0) f.1 in
       (cut_from (x ∷ []) rest, record { whole = r.whole; parts = r.parts; ends = r.ends })
-
-pub some_cutting : SomeCutting
-some_cutting table limits items room = cut_all table limits items room.one room.each

@@ -17,6 +17,10 @@ pub mod Run
 pub mod Totals
 pub mod Ends
 pub mod Greedy
+pub mod Rooms
+pub mod ExactlyOne
+pub mod Bodies
+pub mod RowsTold
 pub mod RowsCompute
 pub mod RowTextsCompute
 pub mod RowStatesCompute
@@ -32,3 +36,7 @@ pub mod RealSingle
 pub mod RealRows
 pub mod RowsReal
 pub mod RowCutsCompute
+pub mod ByBlock
+pub mod ByBlockPeer
+pub mod ByBlockWorld
+pub mod RowsByBlock

@@ -38,10 +38,10 @@ use Rattle.txn_types.specs.declared.txn.Txn.{Txn}
 
 module _ (table : Table) (genesis : State) (say : Txn → Outcome) (txn : Txn) (nodes : List Node) (events : List Event) (f : IsSingle table genesis say txn nodes events) where
   abbrev d : Document
-  d = single table genesis say txn nodes
+  d = single table genesis txn nodes
 
   abbrev s : Setting
-  s = told_setting d
+  s = told_setting say d
 
   abbrev chain : List Block
   chain = s.chain
@@ -105,12 +105,12 @@ module _ (table : Table) (genesis : State) (say : Txn → Outcome) (txn : Txn) (
   trusted (Peer p) g = absurd (true≢false g)
   trusted (Orderer o) g = g
 
-  kept : IsKept d (IsSound r chain doubted)
+  kept : IsKept say d (IsSound r chain doubted)
   kept = record {
     begins = all_more (IsSound r chain (is_faulty s)) (IsSound r chain doubted) (λ e k g. k (trusted e.from g)) (first_pool s chain) (pool_sound s chain chain (all_of_chain chain));
     sends = λ p x L k. of_peers p (sent r p (x ∷ L));
     speaks = λ from m e g. absurd (doubts from e g);
   }
 
-  pub single_is_real : IsReal d events
-  single_is_real = is_real d (IsSound r chain doubted) along kept events f.lawful
+  pub single_is_real : IsReal say d events
+  single_is_real = is_real say d (IsSound r chain doubted) along kept events f.lawful

@@ -1,15 +1,13 @@
 -- In a tame row each run that happens is told rightly, where what is told is what the serial run gives.
-use Rattle.std.specs.Prelude.{ℕ, ◌==◌, ◌<◌, ◌≤◌, ◌≡◌, Bool, true, false, cond, List, [], ◌∷◌, map, length, get_or, take, Some, None, suc, zero, refl}
+use Rattle.std.specs.Prelude.{ℕ, ◌<◌, ◌≤◌, ◌≡◌, Bool, List, [], ◌∷◌, map, length, get_or, take, Some, suc, zero, refl}
 use Rattle.std.specs.List.{AllByRecursion}
 use Rattle.std.proofs.Common.{sym, ◌∙◌, ap, arith, subst}
-use Rattle.std.proofs.lemmas.Bool.{and_parts, eqb-true, true≢false}
-use Rattle.std.proofs.lemmas.Option.{none-some}
+use Rattle.std.proofs.lemmas.Bool.{and_parts, true≢false}
 use Rattle.oxii_defs.specs.Chain.{no_hash, chain as agreed_chain}
 use Rattle.node_laws.proofs.Told.{IsTold}
 use Rattle.node_laws.proofs.Real.{IsSaidAlong}
 use Rattle.node_laws.proofs.RealWorld.{IsKept, is_real}
 use Rattle.known_defs.specs.Known.{after_known, knows_all, no_outcome, txn_at}
-use Rattle.node_defs.specs.Accepted.{accepted, tip}
 use Rattle.node_defs.specs.Ledger.{completed, state_of}
 use Rattle.node_defs.specs.Log.{Log}
 use Rattle.node_defs.specs.Position.{is_agent, is_ready, standings}
@@ -17,14 +15,13 @@ use Rattle.node_defs.specs.Rules.{IsLocal, Rules, in_force, rules_of}
 use Rattle.node_defs.specs.Sent.{sent}
 use Rattle.node_defs.specs.Serial.{IsNumbered, block_at, serial, serial_base, serial_ledger, serial_outcomes_at}
 use Rattle.node_defs.specs.World.{is_faulty, said_by}
-use Rattle.node_laws.proofs.Agree.{Sound, accepted_right, beliefs, beliefs_right, chain_work, ledger_right, own_right}
+use Rattle.node_laws.proofs.Agree.{Sound, beliefs, beliefs_right, chain_work, own_right}
 use Rattle.node_laws.proofs.AgreeSent.{IsRightCommit, sent_right}
-use Rattle.node_laws.proofs.AgreeWorld.{all_of, numbered_from, pool_sound}
+use Rattle.node_laws.proofs.AgreeWorld.{Premises, accepted_chain, all_of, completed_chain, numbered_from, pool_sound}
 use Rattle.node_laws.proofs.Few.{IsTameAll, tame_all}
 use Rattle.node_laws.proofs.Order.{same_outcome_through, serial_at}
 use Rattle.node_laws.proofs.Same.{rules_local}
 use Rattle.node_laws.specs.Agreement.{IsSound}
-use Rattle.node_laws.specs.Growth.{accepted_at}
 use Rattle.node_laws.specs.RowReal.{IsFaithful, IsReal}
 use Rattle.node_laws.specs.RowSettings.{Document, told_rules, told_setting}
 use Rattle.oxii_defs.specs.Lines.{Entry}
@@ -34,22 +31,23 @@ use Rattle.txn_types.specs.declared.event.Event.{Event}
 use Rattle.txn_types.specs.declared.message.Commit.{Commit}
 use Rattle.txn_types.specs.declared.message.Node.{Node}
 use Rattle.txn_types.specs.declared.txn.Outcome.{Outcome}
+use Rattle.txn_types.specs.declared.txn.Txn.{Txn}
 
-module _ (d : Document) (events : List Event) (f : IsFaithful d events) where
+module _ (say : Txn → Outcome) (d : Document) (events : List Event) (f : IsFaithful say d events) where
   abbrev chain : List Block
   chain = agreed_chain d.table d.bodies
 
   abbrev say_rules : Rules
-  say_rules = told_rules d.table d.genesis d.say
+  say_rules = told_rules d.table d.genesis say
 
   abbrev real_rules : Rules
   real_rules = rules_of d.table d.genesis
 
   abbrev faulty : Node → Bool
-  faulty = is_faulty (told_setting d)
+  faulty = is_faulty (told_setting say d)
 
   tame : IsTameAll say_rules chain faulty
-  tame = tame_all (told_setting d) f.tame
+  tame = tame_all (told_setting say d) f.tame
 
   numbered : IsNumbered chain
   numbered m l = numbered_from d.table d.bodies 1 no_hash m l ∙ omega arith
@@ -87,35 +85,30 @@ module _ (d : Document) (events : List Event) (f : IsFaithful d events) where
       ∙ ap (λ us. get_or us t no_outcome) two in
       one ∙ (three ∙ sym (own_right r local_say chain faulty me m t opens earlier k right L s ready))
 
-  in_chain : (me m : ℕ) (L : Log) → Sound say_rules chain faulty L → (b : Block) → accepted_at say_rules me m L ≡ Some b → (m < length chain) × (b ≡ block_at chain m) × (completed say_rules me m L ≡ serial_ledger say_rules chain m)
-  in_chain me m L s b q = one (length (completed say_rules me m L) == m) refl q
-    where
-      one : (c : Bool) → (length (completed say_rules me m L) == m) ≡ c → cond c (accepted say_rules (suc m) (tip say_rules (completed say_rules me m L)) L) None ≡ Some b → (m < length chain) × (b ≡ block_at chain m) × (completed say_rules me m L ≡ serial_ledger say_rules chain m)
-      one false e k = absurd (none-some b k)
-      one true e k =
-          let acc = accepted_right (in_force say_rules (serial_ledger say_rules chain m)) chain faulty m (tame m).orderers numbered (tip say_rules (completed say_rules me m L)) L s b k in
-          (acc.0, acc.1, (ledger_right say_rules local_say chain faulty tame numbered me m L s).0 ∙ ap (serial_ledger say_rules chain) (eqb-true _ _ e))
+  premises : Premises (told_setting say d) chain
+  premises = record { local = local_say; tame = tame; numbered = numbered }
 
-  along : IsSaidAlong d.table d.genesis d.say (Sound say_rules chain faulty)
+  along : IsSaidAlong d.table d.genesis say (Sound say_rules chain faulty)
   along = record {
     shorter = λ e L s. s.1;
     told = λ me m t opens other L b s q l J sj.
-        let k = in_chain me m L s b q in
+        let k = accepted_chain (told_setting say d) chain premises me m L s b q in
+        let done = completed_chain (told_setting say d) chain premises me m L s b q in
         let P : Block → List Entry → Type 0 = λ c ds. t < length c.txns → IsTold (in_force say_rules ds) (outcome_in d.table) me (suc m) c.txns (state_of say_rules ds) opens other t J in
         let base : P (block_at chain m) (serial_ledger say_rules chain m) = λ j. told_here me m t opens other k.0 j J sj in
-        subst (λ c. P c (completed say_rules me m L)) (sym k.1) (subst (P (block_at chain m)) (sym k.2) base) l;
+        subst (λ c. P c (completed say_rules me m L)) (sym k.1) (subst (P (block_at chain m)) (sym done) base) l;
   }
 
   unless : (p : ℕ) (cs : List Commit) → AllByRecursion (IsRightCommit say_rules chain) cs → AllByRecursion (λ c. IsSound say_rules chain faulty (said_by p c)) cs
   unless p [] b = tt
   unless p (c ∷ cs) b = (λ _. b.0, unless p cs b.1)
 
-  kept : IsKept d (IsSound say_rules chain faulty)
+  kept : IsKept say d (IsSound say_rules chain faulty)
   kept = record {
-    begins = pool_sound (told_setting d) chain chain (all_of chain);
+    begins = pool_sound (told_setting say d) chain chain (all_of chain);
     sends = λ p x L s. unless p (sent say_rules p (x ∷ L)) (sent_right say_rules local_say chain faulty tame numbered p (x ∷ L) s);
     speaks = λ from m e g. absurd (true≢false (sym e ∙ g));
   }
 
-  pub tame_is_real : IsReal d events
-  tame_is_real = is_real d (IsSound say_rules chain faulty) along kept events f.lawful
+  pub tame_is_real : IsReal say d events
+  tame_is_real = is_real say d (IsSound say_rules chain faulty) along kept events f.lawful

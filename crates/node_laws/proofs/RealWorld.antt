@@ -23,16 +23,17 @@ use Rattle.txn_types.specs.declared.message.Message.{Message}
 use Rattle.txn_types.specs.declared.message.Node.{Node}
 use Rattle.txn_types.specs.declared.message.Node.TheVariants.{Peer}
 use Rattle.txn_types.specs.declared.txn.Outcome.{Outcome}
+use Rattle.txn_types.specs.declared.txn.Txn.{Txn}
 
 -- what is good stays so: the first pool, what is sent on a good log, and what faulty nodes say
-pub record IsKept (d : Document) (Good : Letter → Type 0) : Type 0 where
-  pub begins : AllByRecursion Good (first_pool (told_setting d) (told_setting d).chain)
-  pub sends : (p : ℕ) (x : Letter) (L : Log) → AllByRecursion Good (x ∷ L) → AllByRecursion (λ c. Good (said_by p c)) (sent (told_setting d).rules p (x ∷ L))
-  pub speaks : (from : Node) (m : Message) → is_faulty (told_setting d) from ≡ true → Good (record { from = from; message = m })
+pub record IsKept (say : Txn → Outcome) (d : Document) (Good : Letter → Type 0) : Type 0 where
+  pub begins : AllByRecursion Good (first_pool (told_setting say d) (told_setting say d).chain)
+  pub sends : (p : ℕ) (x : Letter) (L : Log) → AllByRecursion Good (x ∷ L) → AllByRecursion (λ c. Good (said_by p c)) (sent (told_setting say d).rules p (x ∷ L))
+  pub speaks : (from : Node) (m : Message) → is_faulty (told_setting say d) from ≡ true → Good (record { from = from; message = m })
 
-module _ (d : Document) (Good : Letter → Type 0) (said : IsSaidAlong d.table d.genesis d.say (AllByRecursion Good)) (kept : IsKept d Good) where
+module _ (say : Txn → Outcome) (d : Document) (Good : Letter → Type 0) (said : IsSaidAlong d.table d.genesis say (AllByRecursion Good)) (kept : IsKept say d Good) where
   abbrev s : Setting
-  s = told_setting d
+  s = told_setting say d
 
   abbrev z : Setting
   z = real_setting d
@@ -99,7 +100,7 @@ module _ (d : Document) (Good : Letter → Type 0) (said : IsSaidAlong d.table d
   given_same : (w : World) (p : ℕ) (x : Letter) → Good x → W w → given z w p x ≡ given s w p x
   given_same w p x good a =
       ap (λ (cs : List Commit). record { pool = w.pool ++ map (said_by p) cs; idle = w.idle; logs = set w.logs p (x ∷ get_or w.logs p []) })
-      (sent_same d.table d.genesis d.say (AllByRecursion Good) said p x (get_or w.logs p []) (good, log_good w p a))
+      (sent_same d.table d.genesis say (AllByRecursion Good) said p x (get_or w.logs p []) (good, log_good w p a))
 
   each_same : (x : Letter) → Good x → (ps : List ℕ) (w : World) → W w → given_each z x ps w ≡ given_each s x ps w
   each_same x good [] w a = refl
@@ -163,7 +164,7 @@ module _ (d : Document) (Good : Letter → Type 0) (said : IsSaidAlong d.table d
         go (Some u) k = after_kept 9 es (start s) u lawful k start_kept
 
     ledger_at : (p : ℕ) → ledger_of z (end_of z es) p ≡ ledger_of s (end_of s es) p
-    ledger_at p = ap (λ w. ledger_of z w p) same_end ∙ same_ledger d.table d.genesis d.say (AllByRecursion Good) said p (log_of (end_of s es) p) (log_good (end_of s es) p end_good)
+    ledger_at p = ap (λ w. ledger_of z w p) same_end ∙ same_ledger d.table d.genesis say (AllByRecursion Good) said p (log_of (end_of s es) p) (log_good (end_of s es) p end_good)
 
     ledgers_at : (ps : List ℕ) → map (outcomes_of z (end_of z es)) ps ≡ map (outcomes_of s (end_of s es)) ps
     ledgers_at [] = refl
@@ -178,12 +179,12 @@ module _ (d : Document) (Good : Letter → Type 0) (said : IsSaidAlong d.table d
     }
 
     halt_at_end : (p : ℕ) → halt z.rules p (log_of (end_of s es) p) ≡ halt s.rules p (log_of (end_of s es) p)
-    halt_at_end p = same_halt d.table d.genesis d.say (AllByRecursion Good) said p (log_of (end_of s es) p) (log_good (end_of s es) p end_good)
+    halt_at_end p = same_halt d.table d.genesis say (AllByRecursion Good) said p (log_of (end_of s es) p) (log_good (end_of s es) p end_good)
 
     part_same : (p : ℕ) → part_of z p (log_of (end_of s es) p) ≡ part_of s p (log_of (end_of s es) p)
     part_same p =
         ap (λ (done : List Entry). peer_lines d.table p (reverse done) (state_of s.rules done) ++ halted_line d.table (halt z.rules p (log_of (end_of s es) p)))
-        (same_ledger d.table d.genesis d.say (AllByRecursion Good) said p (log_of (end_of s es) p) (log_good (end_of s es) p end_good))
+        (same_ledger d.table d.genesis say (AllByRecursion Good) said p (log_of (end_of s es) p) (log_good (end_of s es) p end_good))
         ∙ ap (λ h. peer_lines d.table p (reverse (ledger_of s (end_of s es) p)) (state_of s.rules (ledger_of s (end_of s es) p)) ++ halted_line d.table h) (halt_at_end p)
 
     parts_same : (ps : List ℕ) → parts_of z (end_of s es) ps ≡ parts_of s (end_of s es) ps
@@ -193,7 +194,7 @@ module _ (d : Document) (Good : Letter → Type 0) (said : IsSaidAlong d.table d
         one : (b : Bool) (xs ys us vs : List ℕ) → xs ≡ ys → us ≡ vs → cond b [] xs ++ us ≡ cond b [] ys ++ vs
         one b xs ys us vs e k = rw e (rw k refl)
 
-    pub is_real : IsReal d es
+    pub is_real : IsReal say d es
     is_real = record {
       comes = comes_too;
       states = λ p. ap (state_of s.rules) (ledger_at p);

@@ -1,25 +1,19 @@
 -- The rows of admission and cutting, each computed from the definitions.
-use Rattle.std.specs.Prelude.{◌≡◌, ◌≤◌, ◌<◌, ℕ, true, false, List, [], ◌∷◌, nat_lt, nat_le, refl}
-use Rattle.std.proofs.Common.{arith, inl, inr}
-use Rattle.std.proofs.lemmas.Bool.Decides.{nat_tests}
+use Rattle.std.specs.Prelude.{true, false, List, [], ◌∷◌, refl}
+use Rattle.std.proofs.Common.{inl, inr}
+use Rattle.std.proofs.lemmas.Bool.{ltb-true, leb-true}
 use Rattle.txn_types.specs.declared.stream.Piece.TheVariants as piece
-use Rattle.oxii_defs.specs.FirstForm.{transfer_txn}
+use Rattle.oxii_defs.specs.Transfers.{transfer_txn}
 use Rattle.node_defs.specs.Cutting.{Admitted, IsPart}
 use Rattle.node_laws.specs.RowSettings.{transfers, bank, o1, p1}
 use Rattle.node_laws.specs.RowCuts.{Marks, NoMarks, Rejects, widest}
-
-less : (a b : ℕ) → nat_lt a b ≡ true → a < b
-less a b h = grind (arith, nat_tests)
-
-up_to : (a b : ℕ) → nat_le a b ≡ true → a ≤ b
-up_to a b h = grind (arith, nat_tests)
 
 -- a transfer of 4, with a mark behind it
 abbrev marked : List Admitted
 marked = record { piece = piece.Call (transfer_txn 4); marked = true } ∷ []
 
 one : IsPart (transfers o1 1 p1 (bank (0 ∷ []) 1 ∷ [])) widest marked
-one = record { filled = less _ _ refl; alone = tt; few = up_to _ _ refl; small = up_to _ _ refl; unmarked = tt }
+one = record { filled = ltb-true _ _ refl; alone = tt; few = leb-true _ _ refl; small = leb-true _ _ refl; unmarked = tt }
 
 pub marks : Marks
 marks = (marked ∷ marked ∷ [], record { whole = refl; parts = (one, (one, tt)); ends = (inr (inr (inr (inl refl))), tt) }, refl)
@@ -32,7 +26,7 @@ no_marks = (
   both ∷ [],
   record {
     whole = refl;
-    parts = (record { filled = less _ _ refl; alone = ((transfer_txn 4, refl), ((transfer_txn 1, refl), tt)); few = up_to _ _ refl; small = up_to _ _ refl; unmarked = (refl, tt) }, tt);
+    parts = (record { filled = ltb-true _ _ refl; alone = ((transfer_txn 4, refl), ((transfer_txn 1, refl), tt)); few = leb-true _ _ refl; small = leb-true _ _ refl; unmarked = (refl, tt) }, tt);
     ends = tt;
   },
   refl,

@@ -6,7 +6,7 @@ use Rattle.node_defs.specs.Text.{IsTextOf, text}
 use Rattle.node_defs.specs.World.{IsWorld, World, setting_of, start}
 use Rattle.node_laws.proofs.Cuttings.{one_cutting}
 use Rattle.node_laws.proofs.Ends.{one_world}
-use Rattle.node_laws.proofs.Greedy.{some_cutting}
+use Rattle.node_laws.proofs.ExactlyOne.{exactly_one_cutting}
 use Rattle.node_laws.proofs.Run.{same_world}
 use Rattle.node_laws.specs.OneText.{OneText}
 use Rattle.oxii_defs.specs.State.{State}
@@ -35,12 +35,12 @@ same_text table genesis items limits faulty events bodies w agreed_bodies world 
         k.2 ∙ ap (text (setting_of table genesis items bodies faulty) (rejected_from table 0 items)) (same_world (setting_of table genesis items bodies faulty) events (start (setting_of table genesis items bodies faulty)) k.0 w k.1 world)
 
 pub one_text : OneText
-one_text table genesis items limits faulty events room =
-    let cut = some_cutting table limits (admitted table items) room in
-    let bodies = map body_of cut.0 in
+one_text table genesis items limits faulty events lawful fair =
+    let cut = exactly_one_cutting table limits items lawful fair in
+    let bodies = map body_of cut.lists in
     let world = one_world table genesis items bodies faulty events in
     record {
       lines = text (setting_of table genesis items bodies faulty) (rejected_from table 0 items) world.world;
-      is = (bodies, (cut.0, cut.1, refl), (world.world, world.is, refl));
-      only = λ other t. same_text table genesis items limits faulty events bodies world.world (cut.0, cut.1, refl) world.is other t;
+      is = (bodies, (cut.lists, cut.is, refl), (world.world, world.is, refl));
+      only = λ other t. same_text table genesis items limits faulty events bodies world.world (cut.lists, cut.is, refl) world.is other t;
     }

@@ -1,6 +1,7 @@
 pub mod Growth
 pub mod ConflictOrder
 pub mod OneCutting
+pub mod LawfulBodies
 pub mod Agreement
 pub mod OneWorld
 pub mod RowSettings

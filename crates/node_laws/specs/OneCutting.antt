@@ -1,22 +1,23 @@
 -- Of one list of items there is exactly one cutting.
-use Rattle.std.specs.Prelude.{◌≡◌, ◌≤◌, ◌<◌, List, length}
-use Rattle.std.specs.List.{AllByRecursion}
+use Rattle.std.specs.Prelude.{◌≡◌, List}
 use Rattle.txn_types.specs.declared.stream.CutLimits.{CutLimits}
+use Rattle.txn_types.specs.declared.stream.Item.{Item}
 use Rattle.oxii_defs.specs.Table.{Table}
-use Rattle.oxii_defs.specs.BlockBytes.{txn_bytes}
-use Rattle.node_defs.specs.Cutting.{Admitted, IsCutting, txns_in}
+use Rattle.oxii_defs.specs.Lawful.{IsLawfulTable}
+use Rattle.node_defs.specs.Cutting.{Admitted, AreLawfulLimits, IsCutting, admitted}
 
--- a block has room for a transaction, and for each of these
-pub record HaveRoom (table : Table) (limits : CutLimits) (items : List Admitted) : Type 0 where
-  pub one : 0 < limits.txns
-  pub each : AllByRecursion (λ t. length (txn_bytes table t) ≤ limits.bytes) (txns_in items)
-
--- there are no two cuttings
+-- of any admitted items there are no two cuttings
 abbrev pub OneCutting : Type 0
 OneCutting = (table : Table) (limits : CutLimits) (items : List Admitted) (one other : List (List Admitted)) →
     IsCutting table limits items one → IsCutting table limits items other → one ≡ other
 
--- there is one
-abbrev pub SomeCutting : Type 0
-SomeCutting = (table : Table) (limits : CutLimits) (items : List Admitted) →
-    HaveRoom table limits items → (lists : List (List Admitted)) × IsCutting table limits items lists
+-- some lists are the cutting of the admitted items of a stream, and no others
+pub record HasOneCutting (table : Table) (limits : CutLimits) (items : List Item) : Type 0 where
+  pub lists : List (List Admitted)
+  pub is : IsCutting table limits (admitted table items) lists
+  pub only : (other : List (List Admitted)) → IsCutting table limits (admitted table items) other → other ≡ lists
+
+-- where the table and the limits are lawful
+abbrev pub ExactlyOneCutting : Type 0
+ExactlyOneCutting = (table : Table) (limits : CutLimits) (items : List Item) →
+    IsLawfulTable table → AreLawfulLimits limits → HasOneCutting table limits items

@@ -6,9 +6,9 @@ use Rattle.txn_types.specs.declared.message.Node.{Node}
 use Rattle.txn_types.specs.declared.event.Event.{Event}
 use Rattle.oxii_defs.specs.State.{State}
 use Rattle.oxii_defs.specs.Table.{Table}
-use Rattle.node_defs.specs.Cutting.{admitted}
+use Rattle.oxii_defs.specs.Lawful.{IsLawfulTable}
+use Rattle.node_defs.specs.Cutting.{AreLawfulLimits}
 use Rattle.node_defs.specs.Text.{IsTextOf}
-use Rattle.node_laws.specs.OneCutting.{HaveRoom}
 
 -- some lines are its text, and no others
 pub record HasOneText (table : Table) (genesis : State) (items : List Item) (limits : CutLimits) (faulty : List Node) (events : List Event) : Type 0 where
@@ -16,7 +16,7 @@ pub record HasOneText (table : Table) (genesis : State) (items : List Item) (lim
   pub is : IsTextOf table genesis items limits faulty events lines
   pub only : (other : List ℕ) → IsTextOf table genesis items limits faulty events other → other ≡ lines
 
--- where a block has room for each transaction
+-- where the table and the limits are lawful
 abbrev pub OneText : Type 0
 OneText = (table : Table) (genesis : State) (items : List Item) (limits : CutLimits) (faulty : List Node) (events : List Event) →
-    HaveRoom table limits (admitted table items) → HasOneText table genesis items limits faulty events
+    IsLawfulTable table → AreLawfulLimits limits → HasOneText table genesis items limits faulty events

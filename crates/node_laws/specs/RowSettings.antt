@@ -1,6 +1,6 @@
--- The settings of worked rows. What a transaction comes to is told, as the serial run gives it, so that a row computes;
+-- The settings of worked rows. What a transaction comes to can be told, as the serial run gives it, so that a row computes;
 -- that the serial run gives it is proved beside each row.
-use Rattle.std.specs.Prelude.{ℕ, ◌-◌, List, [], ◌∷◌, codes, map, Option, Some, None, slice_get, option_and_then}
+use Rattle.std.specs.Prelude.{ℕ, ◌-◌, List, [], ◌∷◌, codes, map, Option, Some, None, option_and_then}
 use Rattle.std.specs.List.{flat_map}
 use Rattle.std.specs.FinMap as finmap
 use Rattle.txn_types.specs.declared.txn.Kind.TheVariants.{Full}
@@ -17,20 +17,18 @@ use Rattle.txn_types.specs.declared.event.Event.{Event}
 use Rattle.txn_types.specs.declared.event.Event.TheVariants as event
 use Rattle.oxii_defs.specs.Syntax.{Name, Rec, SetRec, Done, Then, RecKind, Op}
 use Rattle.oxii_defs.specs.State.{State, put}
-use Rattle.oxii_defs.specs.Calls.{number_arg}
 use Rattle.oxii_defs.specs.Table.{App, Table}
 use Rattle.oxii_defs.specs.Chain.{chain as agreed_chain}
-use Rattle.oxii_defs.specs.FirstForm.{transfer_op, transfer_txn}
+use Rattle.oxii_defs.specs.Transfers.{transfer_op, transfer_txn}
 use Rattle.node_defs.specs.Rules.{Rules, rules_of}
 use Rattle.node_defs.specs.World.{Setting, World, happens}
 
 -- SETTINGS
 
--- a row's table, genesis state, told outcomes, bodies and faulty nodes
+-- a row's table, genesis state, bodies and faulty nodes
 pub record Document : Type 0 where
   pub table : Table
   pub genesis : State
-  pub say : Txn → Outcome
   pub bodies : List Body
   pub faulty : List Node
 
@@ -47,9 +45,9 @@ setting_with rules d = record {
   faulty = d.faulty;
 }
 
--- the row with the told outcomes
-abbrev pub told_setting : Document → Setting
-told_setting d = setting_with (told_rules d.table d.genesis d.say) d
+-- the row with outcomes that are told by transaction
+abbrev pub told_setting : (Txn → Outcome) → Document → Setting
+told_setting say d = setting_with (told_rules d.table d.genesis say) d
 
 -- the row with the outcomes of its table's operations
 abbrev pub real_setting : Document → Setting
@@ -79,9 +77,6 @@ transfers orderers quorum peers apps = record {
 -- the record a has 10
 abbrev pub ten : State
 ten = put finmap.empty 0 10
-
-abbrev pub amount : Txn → ℕ
-amount t = number_arg (slice_get t.args 2)
 
 -- a transfer leaves a with this number, and b with the rest of 10
 abbrev pub leaves : ℕ → Outcome

@@ -3,6 +3,7 @@ use Rattle.std.specs.Prelude.{◌≡◌, ℕ, List, [], ◌∷◌, ◌++◌, cod
 use Rattle.txn_types.specs.declared.event.Event.{Event}
 use Rattle.txn_types.specs.declared.event.Event.TheVariants as event
 use Rattle.txn_types.specs.declared.txn.Outcome.{Outcome}
+use Rattle.txn_types.specs.declared.txn.Txn.{Txn}
 use Rattle.oxii_defs.specs.State.{value_in}
 use Rattle.oxii_defs.specs.Lines.{Entry, block_line}
 use Rattle.node_defs.specs.Serial.{block_at, serial_outcomes_at}
@@ -12,8 +13,8 @@ use Rattle.node_laws.specs.RowSettings.{Document, told_setting, real_setting, p2
 use Rattle.node_laws.specs.Rows.{end_of, state_at, relay, two_agents, false_majority, lies, change_of_agents}
 
 -- the outcomes that are told for block m + 1 are those of the serial run by the table's operations
-abbrev pub IsToldRightly : Document → ℕ → Type 0
-IsToldRightly d m = serial_outcomes_at (real_setting d).rules (real_setting d).chain m ≡ serial_outcomes_at (told_setting d).rules (told_setting d).chain m
+abbrev pub IsToldRightly : (Txn → Outcome) → Document → ℕ → Type 0
+IsToldRightly say d m = serial_outcomes_at (real_setting d).rules (real_setting d).chain m ≡ serial_outcomes_at (told_setting say d).rules (told_setting say d).chain m
 
 -- the value of a record at the end, as a peer has it
 abbrev pub EndsWith : Setting → List Event → ℕ → ℕ → ℕ → Type 0
@@ -24,11 +25,11 @@ Prints s events lines = text s [] (end_of s events) ≡ lines
 
 -- the line of block m + 1
 abbrev pub block : Document → ℕ → List ℕ
-block d m = block_line d.table (block_at (told_setting d).chain m)
+block d m = block_line d.table (block_at (real_setting d).chain m)
 
 -- block m + 1 with these outcomes
 abbrev pub entry : Document → ℕ → List Outcome → Entry
-entry d m outcomes = record { block = block_at (told_setting d).chain m; outcomes = outcomes }
+entry d m outcomes = record { block = block_at (real_setting d).chain m; outcomes = outcomes }
 
 abbrev pub two_agents_part : List ℕ
 two_agents_part =
@@ -64,7 +65,7 @@ abbrev pub change_part : List ℕ
 change_part =
     block change_of_agents 0 ++ codes "txn 1 bank transfer commit a=6 b=4\n"
     ++ block change_of_agents 1 ++ codes "config bank tau 1 agents p2\n"
-    ++ block change_of_agents 2 ++ codes "txn 1 bank transfer commit a=3 b=7\nstate 2\nvalue a 3\nvalue b 7\n"
+    ++ block change_of_agents 2 ++ codes "txn 1 bank transfer commit a=2 b=8\nstate 2\nvalue a 2\nvalue b 8\n"
 
 abbrev pub change_of_agents_lines : List ℕ
 change_of_agents_lines = codes "blocks 3\npeer p1 completed 3\n" ++ change_part ++ codes "peer p2 completed 3\n" ++ change_part ++ codes "messages 5\nidle 0\n"

@@ -1,5 +1,5 @@
 -- Worked rows: what schedules come to.
-use Rattle.std.specs.Prelude.{◌≡◌, ℕ, ◌==◌, List, [], ◌∷◌, ◌++◌, codes, length, map, Option, Some, None, is_some, true, if◌then◌else◌, unwrap_or, replicate}
+use Rattle.std.specs.Prelude.{◌≡◌, ℕ, List, [], ◌∷◌, ◌++◌, codes, length, map, Option, Some, None, is_some, true, unwrap_or, replicate}
 use Rattle.txn_types.specs.declared.txn.Txn.{Txn}
 use Rattle.txn_types.specs.declared.txn.Outcome.{Outcome}
 use Rattle.txn_types.specs.declared.txn.Outcome.TheVariants as outcome
@@ -15,7 +15,7 @@ use Rattle.oxii_defs.specs.State.{State}
 use Rattle.oxii_defs.specs.Lines.{Entry}
 use Rattle.node_defs.specs.Ledger.{ledger, heard, state_of, Halt, halt}
 use Rattle.node_defs.specs.World.{World, Setting, start, log_of}
-use Rattle.node_laws.specs.RowSettings.{Document, world_after, transfers, bank, copier, copy_txn, ten, one, amount, leaves, transfer_body, config_body, says_commit, o1, p1, p2, p3, p4}
+use Rattle.node_laws.specs.RowSettings.{Document, world_after, transfers, bank, copier, copy_txn, ten, one, leaves, transfer_body, config_body, says_commit, o1, p1, p2, p3, p4}
 
 -- the world at the end of a schedule
 abbrev pub end_of : Setting → List Event → World
@@ -63,7 +63,7 @@ abbrev pub relay_txns : List Txn
 relay_txns = copy_txn 0 0 1 ∷ copy_txn 1 1 2 ∷ copy_txn 0 2 3 ∷ []
 
 abbrev pub relay : List Name → Document
-relay peers = record { table = relay_table peers; genesis = one; say = λ t. copied; bodies = record { txns = relay_txns; config = None } ∷ []; faulty = [] }
+relay peers = record { table = relay_table peers; genesis = one; bodies = record { txns = relay_txns; config = None } ∷ []; faulty = [] }
 
 abbrev pub three_copies : List (List Outcome)
 three_copies = (copied ∷ copied ∷ copied ∷ []) ∷ []
@@ -87,11 +87,8 @@ Scattered way = ComesTo (way (relay p3)) (scattered ++ event.Deliver 2 2 ∷ [])
 
 -- TWO AGENTS: each runs all three transfers, and sends one COMMIT
 
-abbrev pub told_three : Txn → Outcome
-told_three t = leaves (if amount t == 1 then 9 else if amount t == 2 then 7 else 4)
-
 abbrev pub two_agents : List Name → ℕ → Document
-two_agents peers tau = record { table = transfers o1 1 peers (bank (0 ∷ 1 ∷ []) tau ∷ []); genesis = ten; say = told_three; bodies = transfer_body (1 ∷ 2 ∷ 3 ∷ []) ∷ []; faulty = [] }
+two_agents peers tau = record { table = transfers o1 1 peers (bank (0 ∷ 1 ∷ []) tau ∷ []); genesis = ten; bodies = transfer_body (1 ∷ 2 ∷ 3 ∷ []) ∷ []; faulty = [] }
 
 abbrev pub three_transfers : List (List Outcome)
 three_transfers = (leaves 9 ∷ leaves 7 ∷ leaves 4 ∷ []) ∷ []
@@ -109,26 +106,37 @@ RepeatedVote way = ComesTo (way (two_agents p3 2)) repeated 2 0 (0 ∷ 1 ∷ 2 �
 
 -- ONE OF TWO AGENTS: where one vote is enough, no peer waits for the second agent
 
-abbrev pub one_transfer : List Name → List App → ℕ → List Node → Document
-one_transfer peers apps n faulty = record { table = transfers o1 1 peers apps; genesis = ten; say = λ t. leaves n; bodies = transfer_body (4 ∷ []) ∷ []; faulty = faulty }
+abbrev pub one_transfer : List Name → List App → List Node → Document
+one_transfer peers apps faulty = record { table = transfers o1 1 peers apps; genesis = ten; bodies = transfer_body (4 ∷ []) ∷ []; faulty = faulty }
 
 abbrev pub OneOfTwoAgents : (Document → Setting) → Type 0
-OneOfTwoAgents way = ComesTo (way (one_transfer p3 (bank (0 ∷ 1 ∷ []) 1 ∷ []) 6 [])) (event.Deliver 1 0 ∷ event.Deliver 1 2 ∷ event.Deliver 2 2 ∷ []) 2 0 (0 ∷ 1 ∷ 2 ∷ [])
+OneOfTwoAgents way = ComesTo (way (one_transfer p3 (bank (0 ∷ 1 ∷ []) 1 ∷ []) [])) (event.Deliver 1 0 ∷ event.Deliver 1 2 ∷ event.Deliver 2 2 ∷ []) 2 0 (0 ∷ 1 ∷ 2 ∷ [])
     (((leaves 6 ∷ []) ∷ []) ∷ [] ∷ ((leaves 6 ∷ []) ∷ []) ∷ [])
 
 -- LATE BLOCK: the second block comes first
 
-abbrev pub told_two : Txn → Outcome
-told_two t = leaves (if amount t == 4 then 6 else 3)
-
 abbrev pub late_block : Document
-late_block = record { table = transfers o1 1 p2 (bank (0 ∷ []) 1 ∷ []); genesis = ten; say = told_two; bodies = transfer_body (4 ∷ []) ∷ transfer_body (3 ∷ []) ∷ []; faulty = [] }
+late_block = record { table = transfers o1 1 p2 (bank (0 ∷ []) 1 ∷ []); genesis = ten; bodies = transfer_body (4 ∷ []) ∷ transfer_body (4 ∷ []) ∷ []; faulty = [] }
+
+abbrev pub late_start : List Event
+late_start = event.Deliver 2 0 ∷ event.Deliver 1 0 ∷ []
+
+abbrev pub late_before : List Event
+late_before = late_start ++ event.Deliver 4 1 ∷ event.Deliver 3 1 ∷ event.Deliver 2 1 ∷ []
 
 abbrev pub late : List Event
-late = event.Deliver 2 0 ∷ event.Deliver 1 0 ∷ event.Deliver 4 1 ∷ event.Deliver 3 1 ∷ event.Deliver 2 1 ∷ event.Deliver 1 1 ∷ []
+late = late_before ++ event.Deliver 1 1 ∷ []
 
 abbrev pub two_blocks : List (List Outcome)
-two_blocks = (leaves 3 ∷ []) ∷ (leaves 6 ∷ []) ∷ []
+two_blocks = (leaves 2 ∷ []) ∷ (leaves 6 ∷ []) ∷ []
+
+-- the second delivery completes both blocks at the agent, which sends both COMMITs
+abbrev pub LateBlockStart : (Document → Setting) → Type 0
+LateBlockStart way = ComesTo (way late_block) late_start 4 0 (0 ∷ 1 ∷ []) (two_blocks ∷ [] ∷ [])
+
+-- without the last delivery the other peer has completed none
+abbrev pub LateBlockBefore : (Document → Setting) → Type 0
+LateBlockBefore way = ComesTo (way late_block) late_before 4 0 (0 ∷ 1 ∷ []) (two_blocks ∷ [] ∷ [])
 
 abbrev pub LateBlock : (Document → Setting) → Type 0
 LateBlock way = ComesTo (way late_block) late 4 0 (0 ∷ 1 ∷ []) (two_blocks ∷ two_blocks ∷ [])
@@ -140,7 +148,7 @@ IdleDelivery way = ComesTo (way late_block) (event.Deliver 9 0 ∷ []) 2 1 (0 �
 -- OUTVOTED: one of three agents says something else
 
 abbrev pub three_agents : List Node → Document
-three_agents faulty = one_transfer p4 (bank (0 ∷ 1 ∷ 2 ∷ []) 2 ∷ []) 6 faulty
+three_agents faulty = one_transfer p4 (bank (0 ∷ 1 ∷ 2 ∷ []) 2 ∷ []) faulty
 
 abbrev pub moved : List (List Outcome)
 moved = (leaves 6 ∷ []) ∷ []
@@ -165,11 +173,8 @@ pub record FalseMajority (way : Document → Setting) : Type 0 where
 
 -- FALSE ORDERER: one orderer of three turns the block round, and sends a wrong graph
 
-abbrev pub told_pair : Txn → Outcome
-told_pair t = leaves (if amount t == 4 then 6 else 5)
-
 abbrev pub false_orderer : Document
-false_orderer = record { table = transfers (codes "o1" ∷ codes "o2" ∷ codes "o3" ∷ []) 2 p1 (bank (0 ∷ []) 1 ∷ []); genesis = ten; say = told_pair; bodies = transfer_body (4 ∷ 1 ∷ []) ∷ []; faulty = Orderer 2 ∷ [] }
+false_orderer = record { table = transfers (codes "o1" ∷ codes "o2" ∷ codes "o3" ∷ []) 2 p1 (bank (0 ∷ []) 1 ∷ []); genesis = ten; bodies = transfer_body (4 ∷ 1 ∷ []) ∷ []; faulty = Orderer 2 ∷ [] }
 
 abbrev pub two_blocks_said : List Event
 two_blocks_said =
@@ -183,7 +188,7 @@ FalseOrderer way = ComesTo (way false_orderer) two_blocks_said 5 0 (0 ∷ []) ((
 -- UNFIT VOTES: a vote that doesn't fit, and a vote of another application's agent
 
 abbrev pub unfit_votes : Document
-unfit_votes = one_transfer p4 (bank (0 ∷ 2 ∷ []) 1 ∷ copier (codes "k") (1 ∷ []) ∷ []) 6 (Peer 1 ∷ Peer 2 ∷ [])
+unfit_votes = one_transfer p4 (bank (0 ∷ 2 ∷ []) 1 ∷ copier (codes "k") (1 ∷ []) ∷ []) (Peer 1 ∷ Peer 2 ∷ [])
 
 abbrev pub UnfitVotes : (Document → Setting) → Type 0
 UnfitVotes way = ComesTo (way unfit_votes)
@@ -202,10 +207,10 @@ abbrev pub to_p2 : Body
 to_p2 = config_body (record { app = 0; agents = 1 ∷ []; tau = 1 })
 
 abbrev pub change_of_agents : Document
-change_of_agents = record { table = transfers o1 1 p2 (bank (0 ∷ []) 1 ∷ []); genesis = ten; say = told_two; bodies = transfer_body (4 ∷ []) ∷ to_p2 ∷ transfer_body (3 ∷ []) ∷ []; faulty = [] }
+change_of_agents = record { table = transfers o1 1 p2 (bank (0 ∷ []) 1 ∷ []); genesis = ten; bodies = transfer_body (4 ∷ []) ∷ to_p2 ∷ transfer_body (4 ∷ []) ∷ []; faulty = [] }
 
 abbrev pub around_config : List (List Outcome)
-around_config = (leaves 3 ∷ []) ∷ [] ∷ (leaves 6 ∷ []) ∷ []
+around_config = (leaves 2 ∷ []) ∷ [] ∷ (leaves 6 ∷ []) ∷ []
 
 abbrev pub ChangeOfAgents : (Document → Setting) → Type 0
 ChangeOfAgents way = ComesTo (way change_of_agents) (event.All ∷ []) 5 0 (0 ∷ 1 ∷ []) (around_config ∷ around_config ∷ [])
@@ -213,7 +218,7 @@ ChangeOfAgents way = ComesTo (way change_of_agents) (event.All ∷ []) 5 0 (0 �
 -- RETIRED AGENT: the vote of an agent that a configuration retired counts for nothing
 
 abbrev pub retired_agent : Document
-retired_agent = record { table = transfers o1 1 p2 (bank (0 ∷ []) 1 ∷ []); genesis = ten; say = told_two; bodies = to_p2 ∷ transfer_body (4 ∷ []) ∷ []; faulty = Peer 0 ∷ [] }
+retired_agent = record { table = transfers o1 1 p2 (bank (0 ∷ []) 1 ∷ []); genesis = ten; bodies = to_p2 ∷ transfer_body (4 ∷ []) ∷ []; faulty = Peer 0 ∷ [] }
 
 abbrev pub RetiredAgent : (Document → Setting) → Type 0
 RetiredAgent way = ComesTo (way retired_agent) (says_commit 0 2 (leaves 0) ∷ event.All ∷ []) 4 0 (1 ∷ []) (((leaves 6 ∷ []) ∷ [] ∷ []) ∷ [])
@@ -222,7 +227,7 @@ RetiredAgent way = ComesTo (way retired_agent) (says_commit 0 2 (leaves 0) ∷ e
 -- though its predecessor is agreed, since the first copy isn't known
 
 abbrev pub three_in_turn : Document
-three_in_turn = record { table = relay_table p2; genesis = one; say = λ t. copied; bodies = record { txns = copy_txn 0 0 1 ∷ copy_txn 0 1 2 ∷ copy_txn 1 2 3 ∷ []; config = None } ∷ []; faulty = Peer 0 ∷ [] }
+three_in_turn = record { table = relay_table p2; genesis = one; bodies = record { txns = copy_txn 0 0 1 ∷ copy_txn 0 1 2 ∷ copy_txn 1 2 3 ∷ []; config = None } ∷ []; faulty = Peer 0 ∷ [] }
 
 abbrev pub second_vote : Event
 second_vote = event.SayCommit (Peer 0) (record { n = 1; votes = record { t = 1; outcome = copied } ∷ [] })
@@ -240,7 +245,7 @@ KnownAncestor way = ComesTo (way three_in_turn) (second_vote ∷ event.Deliver 1
 -- OFF THE CHAIN: a block whose previous hash isn't that of the peer's block before it is not accepted, whatever its quorum
 
 abbrev pub off_the_chain : Document
-off_the_chain = record { table = transfers o1 1 p1 (bank (0 ∷ []) 1 ∷ []); genesis = ten; say = λ t. leaves 6; bodies = transfer_body (4 ∷ []) ∷ []; faulty = Orderer 0 ∷ [] }
+off_the_chain = record { table = transfers o1 1 p1 (bank (0 ∷ []) 1 ∷ []); genesis = ten; bodies = transfer_body (4 ∷ []) ∷ []; faulty = Orderer 0 ∷ [] }
 
 abbrev pub OffTheChain : (Document → Setting) → Type 0
 OffTheChain way = ComesTo (way off_the_chain) (event.SayBlock (Orderer 0) 1 (Some (replicate 32 1)) (0 ∷ []) None ∷ event.All ∷ []) 1 0 (0 ∷ []) ([] ∷ [])

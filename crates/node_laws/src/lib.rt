@@ -4,7 +4,8 @@
 ghost use Rattle.node_laws.specs.Agreement.{Agreement, SerialPart};
 ghost use Rattle.node_laws.specs.ConflictOrder.{ConflictOrder};
 ghost use Rattle.node_laws.specs.Growth.{Growth};
-ghost use Rattle.node_laws.specs.OneCutting.{OneCutting, SomeCutting};
+ghost use Rattle.node_laws.specs.LawfulBodies.{LawfulBodies};
+ghost use Rattle.node_laws.specs.OneCutting.{ExactlyOneCutting, OneCutting};
 ghost use Rattle.node_laws.specs.OneText.{OneText};
 ghost use Rattle.node_laws.specs.OneWorld.{AllEnds, OneWorld};
 ghost use Rattle.node_laws.specs.RowReal.{RowsAreReal, WorkedRows};
@@ -19,9 +20,14 @@ pub fn conflict_order()
     ensures { ConflictOrder }
 {}
 
-/// Of one list of items there are no two cuttings.
+/// Of admitted items there are no two cuttings.
 pub fn one_cutting()
     ensures { OneCutting }
+{}
+
+/// With lawful limits and a lawful stream, the bodies of agreed blocks are lawful.
+pub fn lawful_bodies()
+    ensures { LawfulBodies }
 {}
 
 /// Whatever is lost, repeated or reordered: where the input is tame, each vote, accepted block and known outcome is the chain's, and no peer is halted.
@@ -44,12 +50,12 @@ pub fn all_ends()
     ensures { AllEnds }
 {}
 
-/// Where a block has room for each transaction, a list of items has a cutting.
-pub fn some_cutting()
-    ensures { SomeCutting }
+/// With a lawful table and lawful limits, a list of items has exactly one cutting.
+pub fn exactly_one_cutting()
+    ensures { ExactlyOneCutting }
 {}
 
-/// An input has exactly one text.
+/// With a lawful table and lawful limits, an input has exactly one text.
 pub fn one_text()
     ensures { OneText }
 {}

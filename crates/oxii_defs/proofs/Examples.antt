@@ -9,7 +9,7 @@ use Rattle.oxii_defs.specs.Outcomes.{run, outcome}
 use Rattle.oxii_defs.specs.Dependency.{graph_of}
 use Rattle.oxii_defs.specs.BlockBytes.{txn_bytes, body_bytes}
 use Rattle.oxii_defs.specs.Lines.{outcome_text}
-use Rattle.oxii_defs.specs.FirstForm.{bank_table, transfer_txn}
+use Rattle.oxii_defs.specs.Transfers.{bank_table, transfer_txn}
 use Rattle.std.specs.Prelude.{codes}
 use Rattle.txn_types.specs.declared.txn.Arg.{Arg}
 use Rattle.txn_types.specs.declared.txn.Arg.TheVariants as arg
@@ -109,13 +109,13 @@ graph_raw = refl
 
 -- BYTES AND LINES
 
-pub transfer_bytes : txn_bytes bank_table (transfer_txn 4)
+pub transfer_bytes : txn_bytes (bank_table Full) (transfer_txn 4)
     ≡ 4 ∷ 98 ∷ 97 ∷ 110 ∷ 107 ∷ 8 ∷ 116 ∷ 114 ∷ 97 ∷ 110 ∷ 115 ∷ 102 ∷ 101 ∷ 114 ∷ 3 ∷ 1 ∷ 1 ∷ 97 ∷ 1 ∷ 1 ∷ 98 ∷ 2 ∷ 0 ∷ 0 ∷ 0 ∷ 0 ∷ 0 ∷ 0 ∷ 0 ∷ 4 ∷ 2 ∷ 1 ∷ 97 ∷ 1 ∷ 98 ∷ 2 ∷ 1 ∷ 97 ∷ 1 ∷ 98 ∷ []
 transfer_bytes = refl
 
-pub config_bytes : body_bytes (record bank_table { peers = codes "p1" ∷ codes "p2" ∷ [] }) [] (Some (record { app = 0; agents = 1 ∷ []; tau = 1 }))
+pub config_bytes : body_bytes (record (bank_table Full) { peers = codes "p1" ∷ codes "p2" ∷ [] }) [] (Some (record { app = 0; agents = 1 ∷ []; tau = 1 }))
     ≡ 0 ∷ 0 ∷ 0 ∷ 0 ∷ 4 ∷ 98 ∷ 97 ∷ 110 ∷ 107 ∷ 1 ∷ 2 ∷ 112 ∷ 50 ∷ 1 ∷ []
 config_bytes = refl
 
-pub abort_text : outcome_text bank_table (transfer_txn 4) (Abort reason.ZeroDivisor) ≡ codes "abort zero_divisor"
+pub abort_text : outcome_text (bank_table Full) (transfer_txn 4) (Abort reason.ZeroDivisor) ≡ codes "abort zero_divisor"
 abort_text = refl

@@ -6,6 +6,7 @@ use Rattle.std.specs.declared.cmp.Ordering.TheVariants.{Less}
 use Rattle.std.specs.Cmp.Lexicographic.{slice_cmp}
 use Rattle.txn_types.specs.declared.block.Config.{Config}
 use Rattle.txn_types.specs.declared.txn.Txn.{Txn}
+use Rattle.txn_types.specs.Names.{IsName}
 use Rattle.txn_types.specs.Rising.{IsRising}
 use Rattle.oxii_defs.specs.Syntax.{Name}
 use Rattle.oxii_defs.specs.WellFormed.{AllDiffer, IsWellFormed}
@@ -30,20 +31,26 @@ pub record AreAgents (table : Table) (agents : List ℕ) (tau : ℕ) : Type 0 wh
 
 -- an application of the table
 pub record IsLawfulApp (table : Table) (app : App) : Type 0 where
+  pub named : IsName app.name
   pub agents : AreAgents table app.agents app.tau
   pub clients : length app.clients ≤ 64
+  pub clients_named : All IsName app.clients
   pub client_names : AllDiffer app.clients
   pub ops : IsUpTo 16 (length app.ops)
+  pub ops_named : All (λ op. IsName op.name) app.ops
   pub op_names : AllDiffer (map (λ op. op.name) app.ops)
   pub well_formed : All IsWellFormed app.ops
 
 -- the counts, ranges and names that each document's table has
 pub record IsLawfulTable (table : Table) : Type 0 where
   pub records : length table.records ≤ 4096
+  pub records_named : All IsName table.records
   pub record_names : AreInOrder table.records
   pub orderers : IsUpTo 16 (length table.orderers)
+  pub orderers_named : All IsName table.orderers
   pub quorum : IsUpTo (length table.orderers) table.quorum
   pub peers : IsUpTo 16 (length table.peers)
+  pub peers_named : All IsName table.peers
   pub node_names : AllDiffer (table.orderers ++ table.peers)
   pub apps : IsUpTo 16 (length table.apps)
   pub app_names : AllDiffer (map (λ app. app.name) table.apps)

@@ -1,5 +1,5 @@
 -- Laws over the definitions.
-use Rattle.std.specs.Prelude.{◌≡◌, ◌⊎◌, ℕ, map}
+use Rattle.std.specs.Prelude.{◌≡◌, ◌≤◌, ◌⊎◌, ℕ, length, map}
 use Rattle.std.specs.FinMap as map
 use Rattle.std.specs.Ordering.{nat_cmp}
 use Rattle.oxii_defs.specs.Syntax.{Stmts, Op}
@@ -7,6 +7,9 @@ use Rattle.oxii_defs.specs.State.{State, value_in, IsState}
 use Rattle.oxii_defs.specs.WellFormed.{IsWellFormed, Match}
 use Rattle.oxii_defs.specs.Meaning.{Ends, Aborts}
 use Rattle.oxii_defs.specs.Outcomes.{outcome, apply}
+use Rattle.oxii_defs.specs.Table.{Table}
+use Rattle.oxii_defs.specs.Lawful.{IsLawfulTable}
+use Rattle.oxii_defs.specs.BlockBytes.{txn_bytes}
 use Rattle.txn_types.specs.declared.txn.Reason.{Reason}
 use Rattle.txn_types.specs.declared.txn.Txn.{Txn}
 use Rattle.txn_types.specs.declared.txn.Outcome.{Outcome}
@@ -42,3 +45,13 @@ OutcomesFit = (op : Op) (t : Txn) (s : State) → IsWellFormed op → Match op.p
 -- what fits keeps the state a state
 abbrev pub StatesStay : Type 0
 StatesStay = (s : State) (t : Txn) (o : Outcome) → IsState s → Fits t o → IsState (apply s t o)
+
+-- how many arguments, and records in each set, a transaction holds at most
+pub record IsHeld (t : Txn) : Type 0 where
+  pub args : length t.args ≤ 16
+  pub reads : length t.reads ≤ 16
+  pub writes : length t.writes ≤ 16
+
+-- no transaction has more than 1,669 bytes
+abbrev pub TxnsAreShort : Type 0
+TxnsAreShort = (table : Table) (t : Txn) → IsLawfulTable table → IsHeld t → length (txn_bytes table t) ≤ 1669

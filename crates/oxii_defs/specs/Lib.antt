@@ -12,4 +12,4 @@ pub mod Lawful
 pub mod BlockBytes
 pub mod Chain
 pub mod Lines
-pub mod FirstForm
+pub mod Transfers

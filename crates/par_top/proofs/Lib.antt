@@ -1,9 +1,7 @@
-pub mod FormLemmas
-pub mod Trees
-pub mod BankLemmas
-pub mod BankLawful
-pub mod LineSteps
+pub mod AgreedLemmas
 pub mod FoldLemmas
 pub mod TextLemmas
 pub mod WordLemmas
+pub mod DocumentLemmas
 pub mod Complete
+pub mod LinkLemmas

@@ -1,17 +1,24 @@
 -- The text of a document, part by part.
-use Rattle.std.proofs.Common.{◌≡◌, ℕ, ◌*◌, List, [], ◌∷◌, ◌++◌, length, Option, sym, ap, subst, ◌∙◌, append_assoc}
+use Rattle.std.proofs.Common.{◌≡◌, ◌≤◌, ℕ, ◌*◌, List, [], ◌∷◌, ◌++◌, length, map, arith, refl, sym, ap, subst, ◌∙◌, append_assoc}
+use Rattle.std.proofs.lemmas.List.{length-map}
 use Rattle.std.specs.List.{All, flat_map}
 use Rattle.txn_types.specs.declared.block.Block.{Block}
 use Rattle.txn_types.specs.declared.block.Body.{Body}
+use Rattle.txn_types.specs.declared.stream.CutLimits.{CutLimits}
+use Rattle.txn_types.specs.declared.stream.Item.{Item}
+use Rattle.txn_types.specs.declared.stream.Rejected.{Rejected}
 use Rattle.oxii_defs.specs.State.{State}
 use Rattle.oxii_defs.specs.Table.{Table}
-use Rattle.oxii_defs.specs.Lawful.{IsLawfulBody}
-use Rattle.oxii_defs.specs.Chain.{IsLawfulBlock, chain, no_hash}
+use Rattle.oxii_defs.specs.Chain.{IsLawfulBlock, chain}
 use Rattle.oxii_defs.specs.Lines.{entry_lines, ledger_of, state_after, state_lines, peer_line, serial_part, blocks_line, tail_lines}
-use Rattle.oxii_defs.specs.FirstForm.{Transfer, IsAmount, bank_table, bodies_of, blocks_of, text_of}
+use Rattle.oxii_defs.specs.Transfers.{bank_table}
+use Rattle.node_defs.specs.Admission.{IsLawfulItem}
+use Rattle.node_defs.specs.Cutting.{AreAgreed, AreLawfulLimits, rejected_from}
+use Rattle.node_defs.specs.GraphText.{graph_text}
+use Rattle.first_form.specs.FirstForm.{Transfers, IsInRange, IsRunText, IsGraphText, lines_of, items_in, ask, limits}
 use Rattle.txn_core.specs.States.{state_of}
-use Rattle.par_top.proofs.BankLawful.{bodies_are_lawful}
-use Rattle.par_top.proofs.FoldLemmas.{ledger_length, chain_lawful}
+use Rattle.par_top.specs.AgreedBlocks.{AreAgreedBlocks}
+use Rattle.par_top.proofs.FoldLemmas.{ledger_length}
 
 -- the part of a peer: its line, its blocks and its state
 pub peer_is : (table : Table) (peer : ℕ) (genesis s : State) (blocks : List Block) (old first second third : List ℕ)
@@ -28,29 +35,54 @@ peer_is table peer genesis s blocks old first second third line lines state rest
     ∙ ap (λ (text : List ℕ). text ++ state_lines table s) (lines ∙ ap (λ (text : List ℕ). text ++ entries) line ∙ append_assoc old head entries)
     ∙ append_assoc old (head ++ entries) (state_lines table s))
 
-pub lawful_bodies : (table : Table) (bodies : List Body) (amount : Option ℕ) → table ≡ bank_table → bodies ≡ bodies_of amount → IsAmount amount
-    → All (λ body. IsLawfulBody table body.txns body.config) bodies
-lawful_bodies table bodies amount is made small = rw (is, made) (bodies_are_lawful amount small)
+pub limits_lawful : AreLawfulLimits limits
+limits_lawful = record { txns = (omega arith, omega arith); bytes_from = omega arith; bytes_to = omega arith }
 
-pub lawful_blocks : (table : Table) (bodies : List Body) (blocks all : List Block) → All (λ body. IsLawfulBody table body.txns body.config) bodies → blocks ≡ chain table bodies → all ≡ blocks
-    → All (IsLawfulBlock table) all
-lawful_blocks table bodies blocks all lawful is same = subst (All (IsLawfulBlock table)) (sym (same ∙ is)) (chain_lawful table 1 no_hash bodies lawful)
+-- what is lawful for one table and stream is lawful for the same ones
+pub lawful_items : (t u : Table) (xs ys : List Item) → t ≡ u → ys ≡ xs → All (IsLawfulItem u) xs → All (IsLawfulItem t) ys
+lawful_items t u xs ys is same lawful = subst (λ (v : Table). All (IsLawfulItem v) ys) (sym is) (subst (All (IsLawfulItem u)) (sym same) lawful)
 
-whole : List Block → Table → State → List ℕ
-whole blocks table s = (blocks_line (length blocks) ++ serial_part table s 0 blocks) ++ tail_lines (2 * length blocks) 0
+pub lawful_blocks : (t : Table) (blocks all : List Block) → all ≡ blocks → All (IsLawfulBlock t) blocks → All (IsLawfulBlock t) all
+lawful_blocks t blocks all same lawful = subst (All (IsLawfulBlock t)) (sym same) lawful
 
-pub text_is : (d : Transfer) (table : Table) (bodies : List Body) (blocks all : List Block) (count : ℕ) (values empty first second third : List ℕ)
-    → table ≡ bank_table → bodies ≡ bodies_of d.amount → blocks ≡ chain table bodies → all ≡ blocks → count ≡ length blocks → values ≡ d.a ∷ d.b ∷ []
+-- the stream of a document in range is short
+pub items_few : (d : Transfers) (items : List Item) → items ≡ map ask d.amounts → IsInRange d → length items ≤ 8192
+items_few d items are range =
+    let many : length items ≡ length d.amounts = ap length are ∙ length-map d.amounts ask in
+    let few : length d.amounts ≤ 256 = range.count in
+    omega (many, few, arith)
+
+-- what is agreed for one table and stream is agreed for the same ones
+moved : (t u : Table) (xs ys : List Item) (bodies : List Body) → t ≡ u → xs ≡ ys → AreAgreed t limits xs bodies → AreAgreed u limits ys bodies
+moved t u xs ys bodies is same agreed = subst (λ (v : Table). AreAgreed v limits ys bodies) is (subst (λ (zs : List Item). AreAgreed t limits zs bodies) same agreed)
+
+pub run_text_is : (d : Transfers) (table : Table) (items all_items : List Item) (blocks all : List Block) (count : ℕ) (values empty first second third : List ℕ)
+    → table ≡ bank_table d.kind → items ≡ items_in d → all_items ≡ items → AreAgreedBlocks table limits all_items blocks → all ≡ blocks → count ≡ length all → values ≡ d.a ∷ d.b ∷ []
     → empty ≡ [] → first ≡ empty ++ blocks_line count → second ≡ first ++ serial_part table (state_of values) 0 all
     → third ≡ second ++ tail_lines (2 * count) 0
-    → third ≡ text_of d
-unfolding text_of whole
-text_is d table bodies blocks all count values empty first second third is made linked same counted start none line part tail =
-    let all_are : all ≡ blocks_of d = same ∙ linked ∙ ap (λ (t : Table). chain t bodies) is ∙ ap (chain bank_table) made in
-    let count_is : count ≡ length all = counted ∙ ap length (sym same) in
-    tail
-    ∙ ap (λ (text : List ℕ). text ++ tail_lines (2 * count) 0) (part ∙ ap (λ (text : List ℕ). text ++ serial_part table (state_of values) 0 all) (line ∙ ap (λ (text : List ℕ). text ++ blocks_line count) none))
-    ∙ ap (λ (n : ℕ). (blocks_line n ++ serial_part table (state_of values) 0 all) ++ tail_lines (2 * n) 0) count_is
-    ∙ ap (λ (bs : List Block). whole bs table (state_of values)) all_are
-    ∙ ap (λ (t : Table). whole (blocks_of d) t (state_of values)) is
-    ∙ ap (λ (vs : List ℕ). whole (blocks_of d) bank_table (state_of vs)) start
+    → IsRunText d third
+run_text_is d table items all_items blocks all count values empty first second third is made same_items agreed same counted start none line part tail = record {
+  bodies = agreed.bodies;
+  agreed = moved table (bank_table d.kind) all_items (items_in d) agreed.bodies is (same_items ∙ made) agreed.agreed;
+  are =
+      tail
+      ∙ ap (λ (text : List ℕ). text ++ tail_lines (2 * count) 0) (part ∙ ap (λ (text : List ℕ). text ++ serial_part table (state_of values) 0 all) (line ∙ ap (λ (text : List ℕ). text ++ blocks_line count) none))
+      ∙ ap (λ (n : ℕ). (blocks_line n ++ serial_part table (state_of values) 0 all) ++ tail_lines (2 * n) 0) counted
+      ∙ ap (λ (t : Table). (blocks_line (length all) ++ serial_part t (state_of values) 0 all) ++ tail_lines (2 * length all) 0) is
+      ∙ ap (λ (vs : List ℕ). (blocks_line (length all) ++ serial_part (bank_table d.kind) (state_of vs) 0 all) ++ tail_lines (2 * length all) 0) start
+      ∙ ap (lines_of d) (same ∙ agreed.linked ∙ ap (λ (t : Table). chain t agreed.bodies) is);
+}
+
+pub graph_text_is : (d : Transfers) (table : Table) (items all_items : List Item) (rejected : List Rejected) (blocks : List Block) (empty text : List ℕ)
+    → table ≡ bank_table d.kind → items ≡ items_in d → all_items ≡ items → rejected ≡ rejected_from table 0 all_items → AreAgreedBlocks table limits all_items blocks
+    → empty ≡ [] → text ≡ empty ++ graph_text table rejected blocks
+    → IsGraphText d text
+graph_text_is d table items all_items rejected blocks empty text is made same_items refused agreed none printed = (
+  agreed.bodies,
+  moved table (bank_table d.kind) all_items (items_in d) agreed.bodies is (same_items ∙ made) agreed.agreed,
+  (printed
+      ∙ ap (λ (xs : List ℕ). xs ++ graph_text table rejected blocks) none
+      ∙ ap (λ (rs : List Rejected). graph_text table rs blocks) (refused ∙ ap (rejected_from table 0) (same_items ∙ made))
+      ∙ ap (graph_text table (rejected_from table 0 (items_in d))) agreed.linked
+      ∙ ap (λ (t : Table). graph_text t (rejected_from t 0 (items_in d)) (chain t agreed.bodies)) is),
+)

@@ -1,7 +1,7 @@
-pub use Rattle.oxii_defs.specs.FirstForm
 pub use Rattle.oxii_defs.specs.Lines
-pub mod Forms
+pub use Rattle.first_form.specs.FirstForm
+pub mod Commands
+pub mod AgreedBlocks
 pub mod Faults
-pub mod Bank
 pub mod Statuses
 pub mod Top

@@ -1,9 +1,9 @@
 -- The statuses of the program: their numbers, and their lines on standard error.
 use Rattle.std.specs.Prelude.{ℕ, List, [], ◌++◌, codes, decimal}
-use Rattle.par_top.specs.declared.fault.Which.{Which}
-use Rattle.par_top.specs.declared.fault.Which.TheVariants.{Document}
-use Rattle.par_top.specs.declared.fault.DocFault.{DocFault}
-use Rattle.par_top.specs.declared.fault.DocFault.TheVariants as fault
+use Rattle.first_form.specs.declared.fault.Which.{Which}
+use Rattle.first_form.specs.declared.fault.Which.TheVariants.{Document}
+use Rattle.first_form.specs.declared.fault.DocFault.{DocFault}
+use Rattle.first_form.specs.declared.fault.DocFault.TheVariants as fault
 use Rattle.par_top.specs.declared.status.Status.{Status}
 use Rattle.par_top.specs.declared.status.Status.TheVariants.{Ok, Usage, Refused, OutOfMemory, ReadFault, WriteFault}
 

@@ -1,41 +1,39 @@
-//! From the bytes of a document to what it means, or the fault for which it is refused.
+//! The document that a command takes.
 
-ghost use Rattle.std.specs.Prelude.{◌≡◌, ◌≤◌, MatchResult, IfOk, MatchOption};
-ghost use Rattle.serde_json.specs.Data.{depth};
-ghost use Rattle.serde_json.specs.Read.{max_depth};
-ghost use Rattle.serde_json.specs.View.{view};
-ghost use Rattle.oxii_defs.specs.FirstForm.{Means, tree_of};
-ghost use Rattle.par_top.specs.Forms.{transfer_of};
-ghost use Rattle.par_top.specs.Faults.{GivesTree, Refuses};
+ghost use Rattle.std.specs.Prelude.{◌≡◌, ◌↔◌, IsTrue, MatchResult};
+ghost use Rattle.first_form.specs.FirstForm.{Means};
+ghost use Rattle.first_form.specs.Forms.{transfers_of};
+ghost use Rattle.par_top.specs.Commands.{Takes, TakesKind};
+ghost use Rattle.par_top.specs.Faults.{Refuses};
 
 use crate::DocFault;
-use crate::form::{Transfer, read_form};
-use serde_json::Value;
+use crate::command::Command;
+use first_form::{Transfers, read_document};
 use std::alloc::Global;
+use txn_core::Kind;
 
-fn tree(alloc: Global, bytes: &[u8]) -> Result<Value, DocFault>
-    ensures tree { GivesTree result bytes.now }
-    ensures flat { IfOk result (λ value. depth (view value) ≤ max_depth) }
+// So far only blocks of kind full are run.
+fn takes(command: Command, kind: Kind) -> bool
+    ensures { IsTrue result ↔ TakesKind command kind }
 {
-    match Value::from_slice(alloc, bytes) {
-        Ok(value) => Ok(value),
-        Err(e) => {
-            if e.is_memory() {
-                Err(DocFault::OutOfMemory)
-            } else {
-                Err(DocFault::NotJson)
-            }
-        }
+    match (command, kind) {
+        (Command::Run, Kind::Raw) => false,
+        _ => true,
     }
 }
 
-/// What the bytes mean, or why they are refused.
-pub fn read_document(alloc: Global, bytes: &[u8]) -> Result<Transfer, DocFault>
-    ensures { MatchResult result (λ d. Means bytes.now (transfer_of d)) (Refuses bytes.now) }
+/// What the bytes mean, or why the command refuses them.
+pub fn document_for(alloc: Global, command: Command, bytes: &[u8]) -> Result<Transfers, DocFault>
+    ensures { MatchResult result (λ d. Means bytes.now (transfers_of d) × Takes command (transfers_of d)) (Refuses command bytes.now) }
 {
-    let value = tree(alloc, bytes)?;
-    let Ok(found) = read_form(alloc, &value) else {
-        return Err(DocFault::OutOfMemory);
-    };
-    found.ok_or(DocFault::NotYet)
+    match read_document(alloc, bytes) {
+        Ok(document) => {
+            if takes(command, document.kind) {
+                Ok(document)
+            } else {
+                Err(DocFault::NotYet)
+            }
+        }
+        Err(fault) => Err(fault),
+    }
 }

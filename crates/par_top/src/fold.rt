@@ -6,13 +6,12 @@ ghost use Rattle.oxii_defs.specs.Table.{IsLawfulTxn};
 ghost use Rattle.oxii_defs.specs.Lawful.{IsLawfulTable};
 ghost use Rattle.oxii_defs.specs.Chain.{IsLawfulBlock};
 ghost use Rattle.oxii_defs.specs.Outcomes.{serial_state, serial_outcomes};
-ghost use Rattle.oxii_defs.specs.Lines.{entry_lines, ledger_of, state_after, peer_line, serial_part};
+ghost use Rattle.oxii_defs.specs.Lines.{entry_lines, ledger_of, state_after, serial_part};
 ghost use Rattle.txn_core.specs.MeantTable.{table_of};
 ghost use Rattle.txn_core.specs.States.{state_of};
 
 use crate::Gate;
-use crate::lines::{push_entry_lines, push_number};
-use crate::state::push_state;
+use report_text::{push_entry_lines, push_peer_line, push_state};
 use std::alloc::Global;
 use txn_core::{Block, OutOfMemory, Outcomes, Scratch, Table, Text, Txn, Values, run_one};
 
@@ -75,19 +74,6 @@ fn push_blocks<G: Gate>(
         push_entry_lines(text, table, block, outcomes.as_slice())?;
     }
     Ok(())
-}
-
-// The line `peer NAME completed C`.
-#[tactic(auto, unfolding(oxii_defs::specs::Lines::peer_line))]
-fn push_peer_line(text: &mut Text, table: &Table, peer: u8, count: u64) -> Result<(), OutOfMemory>
-    requires { peer < length table.now.peers }
-    ensures { OnOk result (text.new ≡ text.old ++ peer_line (table_of table.now) peer count) }
-{
-    text.append(b"peer ")?;
-    text.append(table.peer_name(peer).as_slice())?;
-    text.append(b" completed ")?;
-    push_number(text, count)?;
-    text.append(b"\n")
 }
 
 /// The part of a peer that completes these blocks from these values on.

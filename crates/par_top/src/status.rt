@@ -1,8 +1,8 @@
 ghost use Rattle.std.specs.Prelude.{◌≡◌, ◌++◌, IfOk, OnOk};
 ghost use Rattle.par_top.specs.Statuses.{CanBeSaid, CanSay, which_word, fault_text, line_of, code_of};
 
-use crate::lines::push_number;
 use crate::{DocFault, Which};
+use report_text::push_number;
 use std::alloc::Global;
 use txn_core::{OutOfMemory, Text};
 

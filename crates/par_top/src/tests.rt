@@ -1,17 +1,12 @@
 //! The worked rows of the first form, on the top call.
 
-ghost use Rattle.std.specs.Prelude.{◌≡◌, [], ◌∷◌, codes, IfOk};
-ghost use Rattle.oxii_defs.specs.FirstForm.{bank_table};
-ghost use Rattle.txn_core.specs.MeantTable.{table_of};
+mod links;
 
-use crate::bank::{bank_table, bodies, name};
 use crate::{DocFault, FreeGate, Status, Which, run, status_line};
-use hash_ledger::{block_hash, chain};
 use par_io::{MemSink, MemSource};
 use std::alloc::{AllocError, Global};
 use std::test::Fail;
 use std::thread::Threads;
-use txn_core::{Block, Config, OutOfMemory, PeerSet, Table, Txns};
 
 const TRANSFER: &str =
     "{\"version\":1,\"kind\":\"full\",\"cut\":{\"txns\":256,\"bytes\":1048576},\n \"records\":[[\"a\",10],[\"b\",0]],\"orderers\":[\"o1\"],\"quorum\":1,\"peers\":[\"p1\"],\n \"apps\":[{\"name\":\"bank\",\"agents\":[\"p1\"],\"tau\":1,\"clients\":[\"c1\"],\n  \"contract\":\"op transfer(from:record,to:record,n:number){from=from-n;to=to+n;}\"}],\n \"stream\":[{\"client\":\"c1\",\"app\":\"bank\",\"op\":\"transfer\",\"args\":[\"a\",\"b\",4],\"reads\":[\"a\",\"b\"],\"writes\":[\"a\",\"b\"]}],\n \"faulty\":[],\"schedule\":[{\"do\":\"all\"}]}";
@@ -39,6 +34,34 @@ const UNDERFLOW_TEXT: &str =
 
 const RAW: &str =
     "{\"version\":1,\"kind\":\"raw\",\"cut\":{\"txns\":256,\"bytes\":1048576},\"records\":[[\"a\",10],[\"b\",0]],\"orderers\":[\"o1\"],\"quorum\":1,\"peers\":[\"p1\"],\"apps\":[{\"name\":\"bank\",\"agents\":[\"p1\"],\"tau\":1,\"clients\":[\"c1\"],\"contract\":\"op transfer(from:record,to:record,n:number){from=from-n;to=to+n;}\"}],\"stream\":[{\"client\":\"c1\",\"app\":\"bank\",\"op\":\"transfer\",\"args\":[\"a\",\"b\",4],\"reads\":[\"a\",\"b\"],\"writes\":[\"a\",\"b\"]}],\"faulty\":[],\"schedule\":[{\"do\":\"all\"}]}";
+
+// The document up to its requests, and behind them.
+const BEFORE: &str =
+    "{\"version\":1,\"kind\":\"full\",\"cut\":{\"txns\":256,\"bytes\":1048576},\"records\":[[\"a\",10],[\"b\",0]],\"orderers\":[\"o1\"],\"quorum\":1,\"peers\":[\"p1\"],\"apps\":[{\"name\":\"bank\",\"agents\":[\"p1\"],\"tau\":1,\"clients\":[\"c1\"],\"contract\":\"op transfer(from:record,to:record,n:number){from=from-n;to=to+n;}\"}],\"stream\":[";
+
+const RAW_BEFORE: &str =
+    "{\"version\":1,\"kind\":\"raw\",\"cut\":{\"txns\":256,\"bytes\":1048576},\"records\":[[\"a\",10],[\"b\",0]],\"orderers\":[\"o1\"],\"quorum\":1,\"peers\":[\"p1\"],\"apps\":[{\"name\":\"bank\",\"agents\":[\"p1\"],\"tau\":1,\"clients\":[\"c1\"],\"contract\":\"op transfer(from:record,to:record,n:number){from=from-n;to=to+n;}\"}],\"stream\":[";
+
+const AFTER: &str = "],\"faulty\":[],\"schedule\":[{\"do\":\"all\"}]}";
+
+fn request(alloc: Global, amount: u64) -> Result<String, AllocError> {
+    format!(in alloc;
+        "{{\"client\":\"c1\",\"app\":\"bank\",\"op\":\"transfer\",\"args\":[\"a\",\"b\",{amount}],\"reads\":[\"a\",\"b\"],\"writes\":[\"a\",\"b\"]}}"
+    )
+}
+
+// The document with these transfers.
+fn document(alloc: Global, before: &str, amounts: &[u64]) -> Result<String, AllocError> {
+    let mut text = String::from_str(alloc, before)?;
+    let mut comma = "";
+    for amount in amounts {
+        text.push_str(comma)?;
+        text.push_str(request(alloc, *amount)?.as_str())?;
+        comma = ",";
+    }
+    text.push_str(AFTER)?;
+    Ok(text)
+}
 
 fn words(alloc: Global, line: &str) -> Result<Vec<String>, AllocError> {
     let mut words = Vec::new(alloc);
@@ -76,7 +99,7 @@ fn over_memory<R: Threads + Sync>(
     text: &str,
 ) -> Result<Option<Status>, Fail> {
     let mut source = MemSource::new(bytes, 100, failing.0);
-    let mut sink = MemSink::new(alloc, 16, 1000, failing.1)?;
+    let mut sink = MemSink::new(alloc, 16, 20_000, failing.1)?;
     Ok(outcome(rt, alloc, line, &mut source, &mut sink, text)?)
 }
 
@@ -153,7 +176,15 @@ fn devices_fail(rt: HostRuntime) -> Result<(), Fail> {
 // Each other list of words is no command.
 #[test]
 fn other_words_are_no_command(rt: HostRuntime) -> Result<(), Fail> {
-    for line in ["", "Run", "live", "run run", "run --workers 2"] {
+    for line in [
+        "",
+        "Run",
+        "live",
+        "run run",
+        "run graph",
+        "graph graph",
+        "run --workers 2",
+    ] {
         let document = TRANSFER.as_bytes();
         let status = over_memory(&rt, rt.alloc(), line, document, (&[], &[]), "")?;
         assert_eq!(rt; status, Some(Status::Usage), "{line}");
@@ -188,68 +219,61 @@ fn statuses_have_their_lines(rt: HostRuntime) -> Result<(), Fail> {
     Ok(())
 }
 
-// The hash of the block with the transfer of 4.
-fn transfer_hash(alloc: Global) -> Result<[u8; 32], OutOfMemory> {
-    let table = bank_table(alloc)?;
-    let bodies = bodies(alloc, Some(4))?;
-    let blocks = chain(alloc, &table, &bodies)?;
-    let all = blocks.as_slice();
-    if all.is_empty() {
-        return Ok([0; 32]);
-    }
-    Ok(block_hash(&table, &all[0]))
+// What a document of these transfers gives, over memory.
+fn transfers<R: Threads + Sync>(
+    rt: &R,
+    alloc: Global,
+    line: &str,
+    before: &str,
+    amounts: &[u64],
+    text: &str,
+) -> Result<Option<Status>, Fail> {
+    let document = document(alloc, before, amounts)?;
+    over_memory(rt, alloc, line, document.as_bytes(), (&[], &[]), text)
 }
 
-fn two_peers(alloc: Global) -> Result<Table, OutOfMemory>
-    ensures { IfOk result (λ table. table_of table ≡ record bank_table { peers = codes "p1" ∷ codes "p2" ∷ [] }) }
-{
-    let mut table = bank_table(alloc)?;
-    table.peers.push(name(b"p2"))?;
-    Ok(table)
-}
+const PAIR_TEXT: &str =
+    "blocks 1\nblock 1 11bc1fbda49511a6e81ae5db496dd69da54e2a78c471b35aec21778c51863ddf\ntxn 1 bank transfer after none\ntxn 2 bank transfer after 1\n";
 
-fn second_peer() -> PeerSet
-    ensures { result ≡ 1 ∷ [] }
-{
-    let mut peers = PeerSet::empty();
-    peers.add(1);
-    peers
-}
-
-// The hash of block 2, which makes the second peer the only agent of the bank.
-fn config_hash(alloc: Global, prev: [u8; 32]) -> Result<[u8; 32], OutOfMemory> {
-    let table = two_peers(alloc)?;
-    let block = Block {
-        number: 2,
-        prev,
-        txns: Txns::new(alloc),
-        config: Some(Config {
-            app: 0,
-            agents: second_peer(),
-            tau: 1,
-        }),
-    };
-    Ok(block_hash(&table, &block))
-}
-
-// The hashes of a block of transactions and of a configuration block behind it.
+// The command `graph` prints the blocks of both kinds with what each transaction depends on.
 #[test]
-fn blocks_have_their_hashes(rt: HostRuntime) -> Result<(), Fail> {
-    let alloc = rt.alloc();
-    let first = transfer_hash(alloc)?;
-    let second = config_hash(alloc, first)?;
-    for (hash, digits) in [
-        (
-            first,
-            "736451c8f7eecfcc365addef3327c516f9701079c13dbfe32ef9e21eb649ed19",
-        ),
-        (
-            second,
-            "e44fa4914a428afe38d263d20114ae20ce4a310828bd9e3f2cd39b5ff86c7e53",
-        ),
+fn graphs_are_printed(rt: HostRuntime) -> Result<(), Fail> {
+    for (before, amounts, text) in [
+        (BEFORE, [4, 1].as_slice(), PAIR_TEXT),
+        (RAW_BEFORE, [4, 1].as_slice(), PAIR_TEXT),
+        (BEFORE, [].as_slice(), "blocks 0\n"),
     ] {
-        let printed = hex::encode(alloc, hash.as_slice())?;
-        assert_eq!(rt; printed.as_str(), digits);
+        let status = transfers(&rt, rt.alloc(), "graph", before, amounts, text)?;
+        assert_eq!(rt; status, Some(Status::Ok), "{before}");
+    }
+    Ok(())
+}
+
+// What is printed of a block of 256 transfers of nothing.
+fn full_text(alloc: Global) -> Result<String, AllocError> {
+    let mut text = String::from_str(
+        alloc,
+        "blocks 1\npeer p1 completed 1\nblock 1 468d6df65de248c2fd753d00c71b728c7bb62051df82be57218549fb6ea90fb0\n",
+    )?;
+    for i in 1..257u32 {
+        let line = format!(in alloc; "txn {i} bank transfer commit a=10 b=0\n")?;
+        text.push_str(line.as_str())?;
+    }
+    text.push_str("state 1\nvalue a 10\nmessages 2\nidle 0\n")?;
+    Ok(text)
+}
+
+// A stream has at most 256 requests, which are one block.
+#[test]
+fn blocks_are_full(rt: HostRuntime) -> Result<(), Fail> {
+    let alloc = rt.alloc();
+    let nothing = [0u64; 257];
+    let text = full_text(alloc)?;
+    let status = transfers(&rt, alloc, "run", BEFORE, &nothing[..256], text.as_str())?;
+    assert_eq!(rt; status, Some(Status::Ok));
+    for line in ["run", "graph"] {
+        let status = transfers(&rt, alloc, line, BEFORE, &nothing, "")?;
+        assert_eq!(rt; status, Some(Status::Refused(DocFault::NotYet)), "{line}");
     }
     Ok(())
 }

@@ -6,3 +6,4 @@ pub mod TableLemmas
 pub mod CheckLemmas
 pub mod CheckStepLemmas
 pub mod TableNames
+pub mod GraphLemmas

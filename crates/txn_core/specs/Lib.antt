@@ -7,10 +7,14 @@ pub mod Slots
 pub mod Checked
 pub mod CheckForms
 pub mod States
+pub mod Graphs
 pub use Rattle.oxii_defs.specs.State
 pub use Rattle.oxii_defs.specs.WellFormed
 pub use Rattle.oxii_defs.specs.Table
 pub use Rattle.oxii_defs.specs.Lawful
 pub use Rattle.oxii_defs.specs.Outcomes
+pub use Rattle.oxii_defs.specs.Dependency
+pub use Rattle.oxii_defs.specs.BlockBytes
 pub use Rattle.txn_types.specs.Fitting
 pub use Rattle.txn_types.specs.Values
+pub use Rattle.txn_types.specs.Rising

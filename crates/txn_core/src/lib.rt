@@ -3,6 +3,8 @@
 
 mod check;
 mod eval;
+mod graph;
+mod lengths;
 mod names;
 mod run;
 mod scratch;
@@ -13,6 +15,8 @@ mod table;
 mod tests;
 
 pub use check::{is_well_formed, takes};
+pub use graph::{Graph, depends};
+pub use lengths::bytes_len;
 pub use run::run_txn;
 pub use scratch::Scratch;
 pub use serial::{apply_to, inputs_of, outcome_at, run_one, run_serial};

@@ -1,0 +1,4 @@
+pub mod FormLemmas
+pub mod Trees
+pub mod BankLemmas
+pub mod BankLawful

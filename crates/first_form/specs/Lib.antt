@@ -1,0 +1,10 @@
+pub use Rattle.oxii_defs.specs.Transfers
+pub use Rattle.node_defs.specs.Admission
+pub use Rattle.node_defs.specs.Cutting
+pub use Rattle.node_defs.specs.GraphText
+pub use Rattle.txn_core.specs.MeantTable
+pub use Rattle.txn_core.specs.States
+pub mod FirstForm
+pub mod Forms
+pub mod Faults
+pub mod Bank

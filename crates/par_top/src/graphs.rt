@@ -1,0 +1,45 @@
+//! The agreed blocks with their graphs, as printed.
+
+ghost use Rattle.std.specs.Prelude.{◌≡◌, ◌≤◌, ◌++◌, length, OnOk};
+ghost use Rattle.std.specs.List.{All, flat_map};
+ghost use Rattle.oxii_defs.specs.Chain.{IsLawfulBlock};
+ghost use Rattle.node_defs.specs.GraphText.{graph_block_lines, graph_text};
+ghost use Rattle.txn_core.specs.MeantTable.{table_of};
+
+use crate::agreed::Agreed;
+use dep_graph::build;
+use report_text::{push_blocks_line, push_graph_block, push_rejects};
+use std::alloc::Global;
+use txn_core::{Block, OutOfMemory, Table, Text};
+
+#[tactic(auto, using(crate::proofs::FoldLemmas::txns_few))]
+fn push_graphs(
+    alloc: Global,
+    text: &mut Text,
+    table: &Table,
+    blocks: &[Block],
+) -> Result<(), OutOfMemory>
+    requires { All (IsLawfulBlock (table_of table.now)) blocks.now }
+    ensures { OnOk result (text.new ≡ text.old ++ flat_map (graph_block_lines (table_of table.now)) blocks.now) }
+{
+    for block in blocks {
+        let graph = build(alloc, block, table.kind)?;
+        push_graph_block(text, table, block, &graph)?;
+    }
+    Ok(())
+}
+
+/// The text of the command `graph`: the rejected requests, the count of blocks, and each block with its graph.
+pub fn push_graph_text(
+    alloc: Global,
+    text: &mut Text,
+    table: &Table,
+    agreed: &Agreed,
+) -> Result<(), OutOfMemory>
+    requires { All (IsLawfulBlock (table_of table.now)) agreed.now.blocks }
+    ensures { OnOk result (text.new ≡ text.old ++ graph_text (table_of table.now) agreed.now.rejected agreed.now.blocks) }
+{
+    push_rejects(text, agreed.rejected.as_slice())?;
+    push_blocks_line(text, agreed.blocks.len() as u64)?;
+    push_graphs(alloc, text, table, agreed.blocks.as_slice())
+}

@@ -1,0 +1,10 @@
+//! The printed lines: a peer's ledger and state, the agreed blocks with their graphs, and what stands around them.
+#![tactic(auto)]
+
+mod graph;
+mod lines;
+mod state;
+
+pub use graph::{push_graph_block, push_rejects};
+pub use lines::{push_blocks_line, push_entry_lines, push_number, push_peer_line, push_tail};
+pub use state::push_state;
