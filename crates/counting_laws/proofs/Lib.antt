@@ -1,0 +1,3 @@
+pub mod Reversed
+pub mod Firsts
+pub mod Reaching

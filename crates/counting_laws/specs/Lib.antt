@@ -1,0 +1,2 @@
+pub use Rattle.node_defs.specs.Counting
+pub mod Laws

@@ -1,0 +1,4 @@
+mod SameLemmas
+mod EntryLemmas
+mod NewblockLemmas
+mod Contents

@@ -1,0 +1,129 @@
+ghost use Rattle.std.specs.Prelude.{◌≡◌, ◌≤◌, [], ◌∷◌, length, OnOk, OnErr, IfOk, IfSome};
+ghost use Rattle.std.specs.Option.{option_map};
+ghost use Rattle.node_defs.specs.Accepted.{accepted};
+ghost use Rattle.node_defs.specs.Log.{Log};
+ghost use Rattle.node_defs.specs.Rules.{Rules};
+ghost use Rattle.txn_core.specs.Graphs.{IsGraphOf};
+ghost use Rattle.newblock_quorum.specs.Entries.{HasGraph, answer_at, has_sent, kept_with};
+ghost use Rattle.newblock_quorum.specs.Newblocks.{StandsFor, answer_to, letter_of, orderer_of};
+
+use crate::entry::{Entry, Put};
+use crate::first::first_ready;
+use std::alloc::Global;
+use std::marker::Model;
+use txn_core::{Block, Graph, GrowingList, Kind, NewBlock, Node, OutOfMemory};
+
+/// NEWBLOCKs of the orderers of a table. Of each orderer the first good one for each number counts, in the order of the puts.
+#[derive(Drop)]
+pub struct Inbox {
+    orderers: u8,
+    quorum: u8,
+    kind: Kind,
+    entries: GrowingList<Entry>,
+}
+
+impl Model for Inbox {
+    ghost use Rattle.std.specs.Prelude.{reverse};
+    ghost use Rattle.std.specs.List.{All};
+    ghost use Rattle.newblock_quorum.specs.Entries.{HasGraph, Kept};
+
+    ghost Value = { Kept };
+
+    ghost view = { λ inbox. record { orderers = inbox.orderers; quorum = inbox.quorum; kind = inbox.kind; entries = reverse inbox.entries } };
+
+    ghost invariant = { λ inbox. All (HasGraph inbox.kind) inbox.entries };
+}
+
+/// A content that has reached the quorum, and the graph of its block.
+#[derive(Clone, Copy)]
+pub struct Ready<'a> {
+    pub block: &'a Block,
+    pub graph: &'a Graph,
+}
+
+fn has_entry(entries: &[Entry], orderer: u8, n: u64) -> bool
+    ensures { result ≡ has_sent entries.now orderer n }
+{
+    entries
+        .iter()
+        .any(|e| e.orderer == orderer && e.block.number == n)
+}
+
+impl Inbox {
+    /// Holds no NEWBLOCKs, and counts those of so many orderers.
+    pub fn new(alloc: Global, orderers: u8, quorum: u8, kind: Kind) -> Result<Inbox, OutOfMemory>
+        requires some { 1 ≤ quorum }
+        requires enough { quorum ≤ orderers }
+        ensures { (rules : Rules) → length rules.table.orderers ≡ orderers →
+            rules.table.quorum ≡ quorum → rules.table.kind ≡ kind →
+            IfOk result (λ inbox. StandsFor inbox rules []) }
+    {
+        Ok(Inbox {
+            orderers,
+            quorum,
+            kind,
+            entries: GrowingList::new(alloc),
+        })
+    }
+
+    /// Takes a NEWBLOCK. Only one that is counted changes what the inbox answers.
+    pub fn put(&mut self, _alloc: Global, from: Node, msg: NewBlock) -> Result<Put, OutOfMemory>
+        requires { length msg.block.txns ≤ 256 }
+        ensures answer { (rules : Rules) (L : Log) → StandsFor self.old rules L →
+            IfOk result (λ put. put ≡ answer_to rules L (orderer_of (length rules.table.orderers) from) msg) }
+        ensures stands { (rules : Rules) (L : Log) → StandsFor self.old rules L →
+            OnOk result (StandsFor self.new rules (letter_of from msg ∷ L)) }
+        ensures err { OnErr result (self.new ≡ self.old) }
+    {
+        let Some(orderer) = self.orderer(from) else {
+            return Ok(Put::Stranger);
+        };
+        let NewBlock { block, preds } = msg;
+        let Some(graph) = Graph::checked(&block, self.kind, preds) else {
+            return Ok(Put::WrongGraph);
+        };
+        let put = self.count(orderer, block, graph)?;
+        Ok(put)
+    }
+
+    /// The content with this number and previous hash that was the first to reach the quorum, and its graph.
+    pub fn ready<'a>(&'a self, n: u64, prev: &[u8; 32]) -> Option<Ready<'a>>
+        ensures block { (rules : Rules) (L : Log) → StandsFor self.now rules L →
+            option_map (λ r. r.block.now) result ≡ accepted rules n prev.now L }
+        ensures graph { IfSome result (λ r. IsGraphOf r.block.now.txns r.graph.now) }
+        ensures kind { IfSome result (λ r. r.graph.now.kind ≡ self.now.kind) }
+    {
+        let entry = first_ready(self.quorum, n, prev, self.entries.as_slice())?;
+        Some(Ready {
+            block: &entry.block,
+            graph: &entry.graph,
+        })
+    }
+
+    /// The orderer that a sender is.
+    fn orderer(&self, from: Node) -> Option<u8>
+        ensures { result ≡ orderer_of self.now.orderers from }
+    {
+        match from {
+            Node::Orderer(orderer) if orderer < self.orderers => Some(orderer),
+            _ => None,
+        }
+    }
+
+    fn count(&mut self, orderer: u8, block: Block, graph: Graph) -> Result<Put, OutOfMemory>
+        requires { HasGraph self.old.kind (record { orderer = orderer; block = block; graph = graph }) }
+        ensures answer { IfOk result (λ put. put ≡ answer_at orderer block.number self.old.entries) }
+        ensures kept { OnOk result (self.new ≡ kept_with self.old orderer block graph) }
+        ensures err { OnErr result (self.new ≡ self.old) }
+    {
+        if has_entry(self.entries.as_slice(), orderer, block.number) {
+            return Ok(Put::Repeat);
+        }
+        self.entries.push(Entry {
+            orderer,
+            block,
+            graph,
+        })?;
+        Ok(Put::Counted)
+    }
+}

@@ -1,0 +1,3 @@
+mod BallotLemmas
+mod PutLemmas
+mod Tallies

@@ -1,0 +1,36 @@
+-- What a book keeps: its voters, and the counted votes, the latest first.
+use Rattle.std.specs.Prelude.{ℕ, ◌==◌, Bool, ◌&&◌, if◌then◌else◌, List, ◌∷◌, map, filter, Option, Some, None}
+use Rattle.std.specs.List.{list_any}
+use Rattle.txn_types.specs.declared.txn.Outcome.{Outcome}
+use Rattle.vote_book.specs.declared.ballot.Ballot.{Ballot}
+use Rattle.vote_book.specs.declared.ballot.Put.{Put}
+use Rattle.vote_book.specs.declared.ballot.Put.TheVariants.{Stranger, Repeat, Counted}
+
+-- voters and counted votes
+pub record Kept : Type 0 where
+  pub voters : List ℕ
+  pub ballots : List Ballot
+
+-- it is on position t of block n
+abbrev pub is_on : ℕ → ℕ → Ballot → Bool
+is_on n t b = (b.n == n) && (b.t == t)
+
+-- the counted votes on position t of block n
+abbrev pub kept_on : ℕ → ℕ → List Ballot → List (ℕ × Outcome)
+kept_on n t ballots = map (λ b. (b.voter, b.outcome)) (filter (is_on n t) ballots)
+
+-- the voter has a counted vote there
+abbrev pub has_voted : List Ballot → ℕ → ℕ → ℕ → Bool
+has_voted ballots p n t = list_any (λ b. (b.voter == p) && is_on n t b) ballots
+
+-- the answer to a vote of this voter, if the sender is one
+abbrev pub answer_at : Option ℕ → ℕ → ℕ → List Ballot → Put
+answer_at None n t ballots = Stranger
+answer_at (Some p) n t ballots = if has_voted ballots p n t then Repeat else Counted
+
+-- what is kept behind a vote
+abbrev pub kept_with : Kept → Option ℕ → ℕ → ℕ → Outcome → Kept
+kept_with kept None n t outcome = kept
+kept_with kept (Some p) n t outcome =
+    if has_voted kept.ballots p n t then kept
+    else record { voters = kept.voters; ballots = record { voter = p; n = n; t = t; outcome = outcome } ∷ kept.ballots }

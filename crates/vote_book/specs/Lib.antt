@@ -1,0 +1,5 @@
+pub use Rattle.node_defs.specs.Same
+pub use Rattle.node_defs.specs.Counting
+pub use Rattle.txn_types.specs.Fitting
+pub mod Puts
+pub mod Ballots

@@ -1,0 +1,20 @@
+use txn_types::Outcome;
+
+/// What becomes of a vote that is put into a book.
+#[derive(Clone, Copy, Debug, PartialEq, Eq)]
+pub enum Put {
+    /// The sender is no voter.
+    Stranger,
+    /// The sender has a vote on this position of this block.
+    Repeat,
+    Counted,
+}
+
+/// A counted vote on position `t` of block `n`.
+#[derive(Drop)]
+pub struct Ballot {
+    pub voter: u8,
+    pub n: u64,
+    pub t: u16,
+    pub outcome: Outcome,
+}

@@ -1,0 +1,110 @@
+ghost use Rattle.std.specs.Prelude.{◌≡◌, ◌<◌, ◌∷◌, [], List, ℕ, OnOk, OnErr, IfOk, option_copied};
+ghost use Rattle.vote_book.specs.Ballots.{answer_at, has_voted, kept_with};
+ghost use Rattle.vote_book.specs.Puts.{Cast, StandsFor, agreed_on, answer_to, cast_of, voter_of, votes_on};
+
+use crate::ballot::{Ballot, Put};
+use crate::first::{first_agreed, is_among};
+use std::alloc::Global;
+use std::marker::Model;
+use txn_types::{GrowingList, Node, OutOfMemory, Outcome, PeerSet, Txn};
+
+/// Votes of several voters. On each position of a block the first of each voter counts, in the order of the puts.
+#[derive(Drop)]
+pub struct Book {
+    voters: PeerSet,
+    ballots: GrowingList<Ballot>,
+}
+
+impl Model for Book {
+    ghost use Rattle.std.specs.Prelude.{reverse};
+    ghost use Rattle.vote_book.specs.Ballots.{Kept};
+
+    ghost Value = { Kept };
+
+    ghost view = { λ book. record { voters = book.voters; ballots = reverse book.ballots } };
+}
+
+fn has_ballot(ballots: &[Ballot], voter: u8, n: u64, t: u16) -> bool
+    ensures { result ≡ has_voted ballots.now voter n t }
+{
+    ballots
+        .iter()
+        .any(|b| b.voter == voter && b.n == n && b.t == t)
+}
+
+impl Book {
+    /// Holds no votes.
+    pub fn new(alloc: Global, voters: &PeerSet) -> Result<Book, OutOfMemory>
+        ensures { IfOk result (λ book. StandsFor book voters.now []) }
+    {
+        Ok(Book {
+            voters: voters.copy(),
+            ballots: GrowingList::new(alloc),
+        })
+    }
+
+    /// Takes a vote on position `t` of block `n`. Only one that is counted changes what the book answers.
+    pub fn put(
+        &mut self,
+        _alloc: Global,
+        from: Node,
+        n: u64,
+        t: u16,
+        outcome: &Outcome,
+    ) -> Result<Put, OutOfMemory>
+        ensures answer { (voters : List ℕ) (puts : List Cast) → StandsFor self.old voters puts →
+            IfOk result (λ put. put ≡ answer_to (voter_of voters from) (votes_on voters n t puts)) }
+        ensures stands { (voters : List ℕ) (puts : List Cast) → StandsFor self.old voters puts →
+            OnOk result (StandsFor self.new voters (cast_of from n t outcome.now ∷ puts)) }
+        ensures err { OnErr result (self.new ≡ self.old) }
+    {
+        let voter = self.voter(from);
+        let put = self.count(voter, n, t, outcome)?;
+        Ok(put)
+    }
+
+    /// The outcome that fits `txn` and was the first to have `tau` votes of the agents on position `t` of block `n`.
+    pub fn agreed(&self, n: u64, t: u16, agents: &PeerSet, tau: u8, txn: &Txn) -> Option<&Outcome>
+        requires { 0 < tau }
+        ensures { (voters : List ℕ) (puts : List Cast) → StandsFor self.now voters puts →
+            option_copied result ≡ agreed_on agents.now tau txn.now (votes_on voters n t puts) }
+    {
+        first_agreed(n, t, agents.as_slice(), tau, txn, self.ballots.as_slice())
+    }
+
+    /// The voter that a sender is.
+    fn voter(&self, from: Node) -> Option<u8>
+        ensures { result ≡ voter_of self.now.voters from }
+    {
+        match from {
+            Node::Peer(peer) if is_among(self.voters.as_slice(), peer) => Some(peer),
+            _ => None,
+        }
+    }
+
+    fn count(
+        &mut self,
+        voter: Option<u8>,
+        n: u64,
+        t: u16,
+        outcome: &Outcome,
+    ) -> Result<Put, OutOfMemory>
+        ensures answer { IfOk result (λ put. put ≡ answer_at voter n t self.old.ballots) }
+        ensures kept { OnOk result (self.new ≡ kept_with self.old voter n t outcome.now) }
+        ensures err { OnErr result (self.new ≡ self.old) }
+    {
+        let Some(voter) = voter else {
+            return Ok(Put::Stranger);
+        };
+        if has_ballot(self.ballots.as_slice(), voter, n, t) {
+            return Ok(Put::Repeat);
+        }
+        self.ballots.push(Ballot {
+            voter,
+            n,
+            t,
+            outcome: outcome.copy(),
+        })?;
+        Ok(Put::Counted)
+    }
+}
