@@ -1,0 +1,5 @@
+use Rattle.std.proofs.Common.{length}
+use Rattle.contract_printer.proofs.operations.+put_ops.Given as goal
+
+abbrev pub decreases-put_ops : goal.decreases-put_ops
+decreases-put_ops l = length l.ops.now

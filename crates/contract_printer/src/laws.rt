@@ -1,0 +1,26 @@
+ghost use Rattle.contract_printer.specs.Laws.{ContractsHaveOneCanonicalText, CanonicalTextsAreShortest, CanonicalTextsHaveTheirTokens, CanonicalTextsSpellTheirContracts, CanonicalTextsWithinLimitsAreRead};
+
+/// Texts that read as one contract have one canonical text.
+pub fn contracts_have_one_canonical_text()
+    ensures law { ContractsHaveOneCanonicalText }
+{}
+
+/// No text that reads as a contract is shorter than its canonical text.
+pub fn canonical_texts_are_shortest()
+    ensures law { CanonicalTextsAreShortest }
+{}
+
+/// The tokens of a canonical text are those that it was made of.
+pub fn canonical_texts_have_their_tokens()
+    ensures law { CanonicalTextsHaveTheirTokens }
+{}
+
+/// A canonical text spells its contract.
+pub fn canonical_texts_spell_their_contracts()
+    ensures law { CanonicalTextsSpellTheirContracts }
+{}
+
+/// A canonical text that keeps to the limits reads as its contract.
+pub fn canonical_texts_within_limits_are_read()
+    ensures law { CanonicalTextsWithinLimitsAreRead }
+{}

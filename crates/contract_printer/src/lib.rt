@@ -1,0 +1,17 @@
+//! The canonical text of a contract.
+#![tactic(auto)]
+
+mod expressions;
+mod laws;
+mod operations;
+mod sheet;
+mod statements;
+#[cfg(test)]
+mod tests;
+
+pub use laws::{
+    canonical_texts_are_shortest, canonical_texts_have_their_tokens,
+    canonical_texts_spell_their_contracts, canonical_texts_within_limits_are_read,
+    contracts_have_one_canonical_text,
+};
+pub use operations::print_contract;

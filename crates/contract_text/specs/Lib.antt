@@ -1,0 +1,15 @@
+pub use Rattle.contract_grammar.specs.Tree
+pub use Rattle.contract_grammar.specs.Lexer
+pub use Rattle.contract_grammar.specs.Grammar
+pub use Rattle.contract_grammar.specs.Limits
+pub use Rattle.contract_grammar.specs.Faults
+pub use Rattle.contract_grammar.specs.Reading
+pub use Rattle.txn_core.specs.Meant
+pub use Rattle.oxii_defs.specs.Syntax
+pub use Rattle.oxii_defs.specs.WellFormed
+pub mod Symbols
+pub mod Flaws
+pub mod Typed
+pub mod Room
+pub mod Laws
+pub mod Verdict

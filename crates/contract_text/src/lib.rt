@@ -1,0 +1,20 @@
+//! The contract language's text: from bytes to typed operations, or to the first fault.
+#![tactic(auto)]
+
+mod expressions;
+mod faults;
+mod finding;
+mod flaws;
+mod laws;
+mod operations;
+mod reading;
+mod statements;
+mod symbols;
+#[cfg(test)]
+mod tests;
+
+pub use faults::{Contract, TextFault};
+pub use flaws::{Flaw, FlawKind, ValueKind};
+pub use laws::limits_bound_operations;
+pub use reading::read_contract;
+pub use symbols::Symbol;

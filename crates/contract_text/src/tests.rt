@@ -1,0 +1,3 @@
+//! What no clause says: that memory is there, and that worked rows come out as worked by hand.
+mod rows;
+mod texts;
