@@ -28,7 +28,7 @@ one_le : (b : Bool) → one b ≤ 1
 one_le true = omega arith
 one_le false = omega arith
 
-one_behind : (b c : Bool) → one (b && c) ≤ 1
+pub one_behind : (b c : Bool) → one (b && c) ≤ 1
 one_behind b c = one_le (b && c)
 
 -- words on both sides cost at most a space each

@@ -17,4 +17,12 @@ pub mod Relexed
 pub mod Separate
 pub mod Usual
 pub mod Typing
+pub mod Calm
+pub mod CalmStmts
+pub mod CalmOps
+pub mod Spans
+pub mod Room
+pub mod Quieted
+pub mod Chained
+pub mod Unended
 pub mod Reread

@@ -11,7 +11,7 @@ use Rattle.contract_grammar.specs.declared.token.Token.TheVariants.{Number, Name
 use Rattle.contract_grammar.specs.declared.token.Placed.{Placed}
 use Rattle.contract_grammar.specs.Lexer.{is_space, is_letter, is_digit, is_name_byte, begins, word_of, word_in_block, word_in_expression, single, sign_at, token_at, placed, lexed, tokens}
 use Rattle.contract_printer.specs.Canonical.{is_word, space, token_text, text_behind, text_of}
-use Rattle.contract_printer.proofs.Between.{toks}
+use Rattle.contract_printer.proofs.Between.{toks, one}
 use Rattle.contract_printer.proofs.Texts.{skips}
 use Rattle.contract_printer.proofs.Whole.{IsWordText, word_again, pick_other, dropped, IsNumber, digits_of_number, number_again, run_front}
 
@@ -173,7 +173,7 @@ clear j w [] g = record { equal = λ e. refl; word = λ e. refl }
 clear j w (t ∷ ts) g = both_words j w (is_word t) t (text_behind (is_word t) ts) refl (front t g.1) g.0
 
 -- a token and what follows
-one_again : (at : ℕ) (t : Token) (rest : List ℕ) → Front t → token_at (token_text t ++ rest) ≡ (t, length (token_text t)) → toks (lexed at 0 (token_text t ++ rest)) ≡ t ∷ toks (lexed (at + length (token_text t)) 0 rest)
+one_again : (at : ℕ) (t : Token) (rest : List ℕ) → Front t → token_at (token_text t ++ rest) ≡ (t, length (token_text t)) → lexed at 0 (token_text t ++ rest) ≡ placed at (t, length (token_text t)) ∷ lexed (at + length (token_text t)) 0 rest
 unfolding lexed
 one_again at t rest f is =
     let bytes : token_text t ++ rest ≡ f.byte ∷ (f.others ++ rest) = ap (λ (l : List ℕ). l ++ rest) f.is in
@@ -181,29 +181,44 @@ one_again at t rest f is =
     let read : token_at (f.byte ∷ (f.others ++ rest)) ≡ (t, suc (length f.others)) = ap token_at (sym bytes) ∙ is ∙ (λ i. (t, len i)) in
     let less : suc (length f.others) - 1 ≡ length f.others = omega arith in
     let place : at + 1 + length f.others ≡ at + length (token_text t) = omega (arith, len) in
-    ap (λ (l : List ℕ). toks (lexed at 0 l)) bytes
-    ∙ ap (λ b. toks (if b then lexed (at + 1) 0 (f.others ++ rest) else placed at (token_at (f.byte ∷ (f.others ++ rest))) ∷ lexed (at + 1) ((token_at (f.byte ∷ (f.others ++ rest))).1 - 1) (f.others ++ rest))) f.no_space
-    ∙ ap (λ (r : Token × ℕ). toks (placed at r ∷ lexed (at + 1) (r.1 - 1) (f.others ++ rest))) read
-    ∙ ap (λ k. t ∷ toks (lexed (at + 1) k (f.others ++ rest))) less
-    ∙ ap (λ (l : List Placed). t ∷ toks l) (skips (length f.others) (at + 1) (f.others ++ rest))
-    ∙ ap (λ (l : List ℕ). t ∷ toks (lexed (at + 1 + length f.others) 0 l)) (dropped f.others rest)
-    ∙ ap (λ a. t ∷ toks (lexed a 0 rest)) place
+    ap (λ (l : List ℕ). lexed at 0 l) bytes
+    ∙ ap (λ b. if b then lexed (at + 1) 0 (f.others ++ rest) else placed at (token_at (f.byte ∷ (f.others ++ rest))) ∷ lexed (at + 1) ((token_at (f.byte ∷ (f.others ++ rest))).1 - 1) (f.others ++ rest)) f.no_space
+    ∙ ap (λ (r : Token × ℕ). placed at r ∷ lexed (at + 1) (r.1 - 1) (f.others ++ rest)) read
+    ∙ ap (λ k. placed at (t, suc (length f.others)) ∷ lexed (at + 1) k (f.others ++ rest)) less
+    ∙ ap (λ (l : List Placed). placed at (t, suc (length f.others)) ∷ l) (skips (length f.others) (at + 1) (f.others ++ rest))
+    ∙ ap (λ (l : List ℕ). placed at (t, suc (length f.others)) ∷ lexed (at + 1 + length f.others) 0 l) (dropped f.others rest)
+    ∙ ap (λ a. placed at (t, suc (length f.others)) ∷ lexed a 0 rest) place
+    ∙ ap (λ n. placed at (t, n) ∷ lexed (at + length (token_text t)) 0 rest) (sym len)
 
-spaced : (at : ℕ) (b : Bool) (bs : List ℕ) (ts : List Token) → ((a : ℕ) → toks (lexed a 0 bs) ≡ ts) → toks (lexed at 0 (space b ++ bs)) ≡ ts
+spaced : (at : ℕ) (b : Bool) (bs : List ℕ) → lexed at 0 (space b ++ bs) ≡ lexed (at + one b) 0 bs
 unfolding lexed
-spaced at true bs ts h = h (at + 1)
-spaced at false bs ts h = h at
+spaced at true bs = refl
+spaced at false bs = let is : at ≡ at + 0 = omega arith in ap (λ a. lexed a 0 bs) is
 
-pub all_again : (ts : List Token) (j w : Bool) (at : ℕ) → Good j ts → toks (lexed at 0 (text_behind w ts)) ≡ ts
+-- tokens in the places that their text has for them, from this byte on, behind a word or behind none
+abbrev pub spread : ℕ → Bool → List Token → List Placed
+spread at w [] = []
+spread at w (t ∷ ts) = placed (at + one (w && is_word t)) (t, length (token_text t)) ∷ spread (at + one (w && is_word t) + length (token_text t)) (is_word t) ts
+
+pub toks_spread : (at : ℕ) (w : Bool) (ts : List Token) → toks (spread at w ts) ≡ ts
+toks_spread at w [] = refl
+toks_spread at w (t ∷ ts) = ap (λ (l : List Token). t ∷ l) (toks_spread (at + one (w && is_word t) + length (token_text t)) (is_word t) ts)
+
+all_again : (ts : List Token) (j w : Bool) (at : ℕ) → Good j ts → lexed at 0 (text_behind w ts) ≡ spread at w ts
 unfolding lexed
 all_again [] j w at g = refl
 all_again (t ∷ ts) j w at g =
     let rest = text_behind (is_word t) ts in
     let f = front t g.1 in
     let here = again t g.1 rest (clear (joins t) (is_word t) ts g.2) in
-    let more = all_again ts (joins t) (is_word t) in
-    spaced at (w && is_word t) (token_text t ++ rest) (t ∷ ts) (λ a. one_again a t rest f here ∙ ap (λ (l : List Token). t ∷ l) (more (a + length (token_text t)) g.2))
+    let a = at + one (w && is_word t) in
+    spaced at (w && is_word t) (token_text t ++ rest)
+    ∙ one_again a t rest f here
+    ∙ ap (λ (l : List Placed). placed a (t, length (token_text t)) ∷ l) (all_again ts (joins t) (is_word t) (a + length (token_text t)) g.2)
 
--- the tokens of their text are these tokens
+-- the tokens of their text are these tokens, in their places
+pub tokens_spread : (ts : List Token) → Good false ts → tokens (text_of ts) ≡ spread 0 false ts
+tokens_spread ts g = all_again ts false false 0 g
+
 pub tokens_again : (ts : List Token) → Good false ts → toks (tokens (text_of ts)) ≡ ts
-tokens_again ts g = all_again ts false false 0 g
+tokens_again ts g = ap toks (tokens_spread ts g) ∙ toks_spread 0 false ts

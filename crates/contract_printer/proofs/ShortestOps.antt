@@ -117,7 +117,7 @@ head_shorter (with {xs = xs} {ps = ps} z r) = rw (toks-append xs (tok z Close �
   also = last_ended false (printed_params ps) Close;
 })
 
-op_shorter : {ts : List Placed} {o : Op} → SpellsOp ts o → Shorter (toks ts) (printed_op o)
+pub op_shorter : {ts : List Placed} {o : Op} → SpellsOp ts o → Shorter (toks ts) (printed_op o)
 op_shorter (of_op {hs = hs} {bs = bs} r q) = let one = block_shorter q in rw (toks-append hs bs, one.is) (both_shorter (head_shorter r) (braced_shorter one.shorter))
 
 pub ops_one : (os : List Op) (o : Op) → printed_ops (os ++ o ∷ []) ≡ printed_ops os ++ printed_op o

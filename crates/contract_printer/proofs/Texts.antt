@@ -24,7 +24,7 @@ behind_word true (t ∷ ts) = by (is_word t)
     by false = omega arith
 
 -- no space between a word and a token that is no word
-no_space : (w v : Bool) → (w ≡ true → v ≡ false) → one (w && v) ≡ 0
+pub no_space : (w v : Bool) → (w ≡ true → v ≡ false) → one (w && v) ≡ 0
 no_space true v h = rw (h refl) refl
 no_space false v h = refl
 

@@ -4,7 +4,6 @@ use Rattle.contract_grammar.specs.declared.token.Placed.{Placed}
 use Rattle.contract_grammar.specs.Tree as raw
 use Rattle.contract_grammar.specs.Lexer.{tokens}
 use Rattle.contract_grammar.specs.Grammar.{SpellsContract}
-use Rattle.contract_grammar.specs.Limits.{IsWithinLimits}
 use Rattle.oxii_defs.specs.Syntax.{Op}
 use Rattle.contract_text.specs.Flaws.{flaws}
 use Rattle.contract_text.specs.Typed.{typed_op}
@@ -36,6 +35,6 @@ pub record IsSpelled (text : List ℕ) (ops : List Op) : Type 0 where
 abbrev pub CanonicalTextsSpellTheirContracts : Type 0
 CanonicalTextsSpellTheirContracts = (text : List ℕ) (ops : List Op) → verdict text ≡ accepted ops → IsSpelled (canonical ops) ops
 
--- a canonical text that keeps to the limits reads as its contract
-abbrev pub CanonicalTextsWithinLimitsAreRead : Type 0
-CanonicalTextsWithinLimitsAreRead = (text : List ℕ) (ops : List Op) → verdict text ≡ accepted ops → IsWithinLimits (tokens (canonical ops)) → verdict (canonical ops) ≡ accepted ops
+-- a canonical text reads as its contract
+abbrev pub CanonicalTextsReadAsTheirContracts : Type 0
+CanonicalTextsReadAsTheirContracts = (text : List ℕ) (ops : List Op) → verdict text ≡ accepted ops → verdict (canonical ops) ≡ accepted ops

@@ -1,4 +1,4 @@
-ghost use Rattle.contract_printer.specs.Laws.{ContractsHaveOneCanonicalText, CanonicalTextsAreShortest, CanonicalTextsHaveTheirTokens, CanonicalTextsSpellTheirContracts, CanonicalTextsWithinLimitsAreRead};
+ghost use Rattle.contract_printer.specs.Laws.{ContractsHaveOneCanonicalText, CanonicalTextsAreShortest, CanonicalTextsHaveTheirTokens, CanonicalTextsSpellTheirContracts, CanonicalTextsReadAsTheirContracts};
 
 /// Texts that read as one contract have one canonical text.
 pub fn contracts_have_one_canonical_text()
@@ -20,7 +20,7 @@ pub fn canonical_texts_spell_their_contracts()
     ensures law { CanonicalTextsSpellTheirContracts }
 {}
 
-/// A canonical text that keeps to the limits reads as its contract.
-pub fn canonical_texts_within_limits_are_read()
-    ensures law { CanonicalTextsWithinLimitsAreRead }
+/// A canonical text reads as its contract.
+pub fn canonical_texts_read_as_their_contracts()
+    ensures law { CanonicalTextsReadAsTheirContracts }
 {}

@@ -108,6 +108,8 @@ pub fn print_contract(alloc: Global, contract: &Contract) -> Result<Text, OutOfM
     // The contract came from a text.
     requires { (text : List ℕ) × (verdict text ≡ accepted (map op_of contract.now.ops)) }
     ensures canonical { IfOk result (λ t. t ≡ canonical (map op_of contract.now.ops)) }
+    // The text reads as the same contract.
+    ensures reads { IfOk result (λ t. verdict t ≡ accepted (map op_of contract.now.ops)) }
     // No text that reads as this contract is shorter.
     ensures shortest { IfOk result (λ t. (other : List ℕ) → verdict other ≡ accepted (map op_of contract.now.ops) → length t ≤ length other) }
 {
