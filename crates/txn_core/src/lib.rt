@@ -27,5 +27,5 @@ pub use txn_types::{
     CutLimits, Event, Events, FixedList, GrowingList, Item, ItemList, Items, Kind, Known, MAX,
     Message, Name, Names, NewBlock, Node, NodeSet, OutOfMemory, Outcome, Outcomes, PeerSet, Piece,
     Preds, Ranked, Reason, RecordList, Recs, Reject, Rejected, Rejects, Request, RequestArgs,
-    RisingList, Text, Txn, Txns, Values, Vote, Votes, Writes,
+    RisingList, Split, Text, Txn, Txns, Values, Vote, Votes, Writes,
 };

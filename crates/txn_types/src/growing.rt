@@ -1,4 +1,5 @@
-ghost use Rattle.std.specs.Prelude.{◌≡◌, ◌<◌, [], ◌∷◌, ◌++◌, length, slice_set, OnOk, OnErr, MatchOption};
+ghost use Rattle.std.specs.Prelude.{◌≡◌, ◌≤◌, ◌<◌, [], ◌∷◌, ◌++◌, length, slice_set, OnOk, OnErr, MatchOption};
+ghost use Rattle.std.specs.List.{insert};
 
 use crate::OutOfMemory;
 use std::alloc::Global;
@@ -58,6 +59,16 @@ impl<T: Drop> GrowingList<T> {
         ensures err { OnErr result (self.new ≡ self.old) }
     {
         self.items.push(x)?;
+        Ok(())
+    }
+
+    /// Puts an item before item `i`, or at the end.
+    pub fn insert(&mut self, i: usize, x: T) -> Result<(), OutOfMemory>
+        requires { i ≤ length self.old }
+        ensures ok { OnOk result (self.new ≡ insert self.old i x) }
+        ensures err { OnErr result (self.new ≡ self.old) }
+    {
+        self.items.insert(i, x)?;
         Ok(())
     }
 

@@ -22,7 +22,7 @@ pub use event::{Event, Events, Items};
 pub use fixed::FixedList;
 pub use growing::{Bytes, GrowingList, Text};
 pub use memory::OutOfMemory;
-pub use message::{Commit, Commits, Message, NewBlock, Node, NodeSet, Preds, Vote, Votes};
+pub use message::{Commit, Commits, Message, NewBlock, Node, NodeSet, Preds, Split, Vote, Votes};
 pub use name::{Name, Names};
 pub use rising::{Ranked, RisingList};
 pub use stream::{

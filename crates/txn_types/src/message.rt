@@ -1,7 +1,7 @@
 ghost use Rattle.std.specs.Prelude.{◌≡◌};
 ghost use Rattle.txn_types.specs.Nodes.{rank_of};
 
-use crate::{Block, GrowingList, Outcome, Ranked, RisingList};
+use crate::{Block, GrowingList, Outcome, Ranked, Recs, RisingList};
 
 /// A peer or an orderer, by its place in the table.
 #[derive(Clone, Copy, Debug, PartialEq, Eq)]
@@ -65,6 +65,16 @@ pub struct Commit {
 
 /// A list of COMMITs.
 pub type Commits = GrowingList<Commit>;
+
+/// Why a peer halted: position `t` of block `n`, from 0, which writes these records, came to one outcome in its own run and was agreed with another.
+#[derive(PartialEq, Eq, Drop)]
+pub struct Split {
+    pub n: u64,
+    pub t: u16,
+    pub writes: Recs,
+    pub ran: Outcome,
+    pub voted: Outcome,
+}
 
 /// What nodes send to each other.
 #[derive(Drop)]

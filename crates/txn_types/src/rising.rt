@@ -57,6 +57,17 @@ impl<T: Ranked, const N: usize> RisingList<T, N> {
         self.items.as_slice()
     }
 
+    /// The list of these items.
+    pub fn of(items: &[T]) -> Self
+        requires room { length items.now ≤ N }
+        requires rising { IsRising (map T.rank items.now) }
+        ensures { result ≡ items.now }
+    {
+        let mut list = FixedList::empty();
+        list.add_all(items);
+        RisingList { items: list }
+    }
+
     /// Puts an item at the end.
     pub fn add(&mut self, x: T)
         requires room { length self.old < N }

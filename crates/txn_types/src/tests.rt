@@ -16,8 +16,9 @@ fn growing_lists_grow(rt: HostRuntime) -> Result<(), Fail> {
     assert_eq!(rt; list.pop(), Some(3));
     assert_eq!(rt; list.len(), 2);
     list.set(1, 7);
+    list.insert(1, 5)?;
     let copied = list.copy(rt.alloc())?;
-    assert_eq!(rt; copied.as_slice(), [1, 7].as_slice());
+    assert_eq!(rt; copied.as_slice(), [1, 5, 7].as_slice());
     let mut bytes = Bytes::new(rt.alloc());
     bytes.append(b"ab")?;
     bytes.append(b"c")?;
@@ -37,6 +38,7 @@ fn fixed_lists_fill(rt: HostRuntime) {
     let mut records = Recs::empty();
     records.add(3);
     assert_eq!(rt; records.copy().as_slice(), [3].as_slice());
+    assert_eq!(rt; Recs::of(&[3, 5]).as_slice(), [3, 5].as_slice());
     let mut nodes = NodeSet::empty();
     nodes.add(Node::Peer(9));
     nodes.add(Node::Orderer(0));
