@@ -1,0 +1,10 @@
+pub use Rattle.txn_types.specs.Names
+pub use Rattle.txn_types.specs.Nodes
+pub use Rattle.txn_types.specs.Rising
+pub use Rattle.oxii_defs.specs.WellFormed
+pub mod Faults
+pub mod Check
+pub mod Forms
+pub mod Tables
+pub mod Sorted
+pub mod Meaning

@@ -1,0 +1,188 @@
+//! New names, and references to the entries of a table.
+
+ghost use Rattle.std.specs.Prelude.{◌≡◌, ◌≤◌, ℕ, List, Option, length};
+ghost use Rattle.serde_json.specs.View.{view};
+ghost use Rattle.txn_types.specs.Nodes.{rank_of};
+ghost use Rattle.doc_forms.specs.Check.{Gives};
+ghost use Rattle.doc_forms.specs.Forms.{seen};
+ghost use Rattle.doc_forms.specs.Tables.{has_name, place_of, place_below, node_named, new_name, reference, has_rank, count_below, new_reference};
+
+use crate::fault::DocFault;
+use crate::forms::{double_fault, name, name_fault};
+use crate::turns::Turn;
+use serde_json::Value;
+use std::alloc::Global;
+use txn_types::{GrowingList, Name, Names, Node, Ranked};
+
+/// Whether it is one of the names.
+#[tactic(auto, unfolding(crate::specs::Tables::has_name))]
+pub fn has_name(names: &[Name], text: &[u8]) -> bool
+    ensures { result ≡ has_name names.now text.now }
+{
+    names.iter().any(|other| other.as_slice() == text)
+}
+
+/// New names, each also new among the taken ones.
+#[derive(Clone, Copy, Drop)]
+pub struct NewName<'t> {
+    pub taken: &'t [Name],
+}
+
+impl<'t> Turn for NewName<'t> {
+    type State = Names;
+
+    ghost check = { λ s. new_name s.taken.now };
+
+    #[tactic(auto, unfolding(crate::specs::Tables::new_name))]
+    fn turn(&self, alloc: Global, mut done: Names, item: &Value) -> Result<Names, DocFault> {
+        let text = name(alloc, Some(item))?;
+        if has_name(self.taken, text.as_slice()) || has_name(done.as_slice(), text.as_slice()) {
+            return Err(double_fault(alloc));
+        }
+        done.push(text)?;
+        Ok(done)
+    }
+}
+
+/// What a reference leads to.
+pub trait Entry: Ranked {
+    /// Its rank.
+    fn rank(self) -> u32
+        ensures { result ≡ Self.rank self };
+}
+
+impl Entry for u8 {
+    fn rank(self) -> u32 {
+        u32::from(self)
+    }
+}
+
+impl Entry for u16 {
+    fn rank(self) -> u32 {
+        u32::from(self)
+    }
+}
+
+impl Entry for Node {
+    fn rank(self) -> u32 {
+        match self {
+            Node::Peer(p) => u32::from(p),
+            Node::Orderer(o) => 256 + u32::from(o),
+        }
+    }
+}
+
+/// Names that lead to entries.
+pub trait Table {
+    type Entry: Entry;
+
+    ghost lookup: { Self → List ℕ → Option Self.Entry };
+
+    /// The entry with this name.
+    fn find(&self, text: &[u8]) -> Option<Self::Entry>
+        ensures { result ≡ lookup self.now text.now };
+}
+
+#[tactic(auto, unfolding(crate::specs::Tables::place_of))]
+fn place_of(names: &[Name], text: &[u8]) -> Option<usize>
+    ensures { result ≡ place_of names.now text.now }
+{
+    names.iter().position(|other| other.as_slice() == text)
+}
+
+/// Names as they stand in the document, whose places are numbers of 8 bits.
+impl Table for Names {
+    type Entry = u8;
+
+    ghost lookup = { λ names. place_below 256 names };
+
+    #[tactic(auto, unfolding(crate::specs::Tables::place_below))]
+    fn find(&self, text: &[u8]) -> Option<u8> {
+        let place = place_of(self.as_slice(), text)?;
+        u8::try_from(place).ok()
+    }
+}
+
+/// The orderers and the peers of a document, whose names differ.
+#[derive(Clone, Copy, Drop)]
+pub struct Nodes<'t> {
+    pub orderers: &'t Names,
+    pub peers: &'t Names,
+}
+
+impl<'t> Table for Nodes<'t> {
+    type Entry = Node;
+
+    ghost lookup = { λ nodes. node_named nodes.orderers.now nodes.peers.now };
+
+    #[tactic(auto, unfolding(crate::specs::Tables::node_named))]
+    fn find(&self, text: &[u8]) -> Option<Node> {
+        match self.peers.find(text) {
+            Some(p) => Some(Node::Peer(p)),
+            None => match self.orderers.find(text) {
+                Some(o) => Some(Node::Orderer(o)),
+                None => None,
+            },
+        }
+    }
+}
+
+/// A reference to an entry of a table.
+#[tactic(auto, unfolding(crate::specs::Tables::reference))]
+pub fn reference<T: Table>(
+    alloc: Global,
+    table: &T,
+    value: Option<&Value>,
+) -> Result<T::Entry, DocFault>
+    ensures { Gives (λ e. e) result (reference (T.lookup table.now) (seen value.entry)) }
+{
+    let text = name(alloc, value)?;
+    match table.find(text.as_slice()) {
+        Some(entry) => Ok(entry),
+        None => Err(name_fault(alloc)),
+    }
+}
+
+#[tactic(auto, unfolding(crate::specs::Tables::has_rank))]
+fn has_rank<E: Entry>(entries: &[E], rank: u32) -> bool
+    ensures { result ≡ has_rank E.rank entries.now rank }
+{
+    entries.iter().any(|other| other.rank() == rank)
+}
+
+#[tactic(auto, unfolding(crate::specs::Tables::count_below))]
+fn count_below<E: Entry>(entries: &[E], rank: u32) -> usize
+    ensures count { result ≡ count_below E.rank entries.now rank }
+    ensures bound { result ≤ length entries.now }
+{
+    entries.iter().filter(|other| other.rank() < rank).count()
+}
+
+/// References, each new, put among those before it so that they rise.
+#[derive(Clone, Copy, Drop)]
+pub struct NewReference<'t, T> {
+    pub table: &'t T,
+}
+
+impl<'t, T: Table> Turn for NewReference<'t, T> {
+    type State = GrowingList<T::Entry>;
+
+    ghost check = { λ s. new_reference T.Entry.rank (T.lookup s.table.now) };
+
+    #[tactic(auto, unfolding(crate::specs::Tables::new_reference))]
+    fn turn(
+        &self,
+        alloc: Global,
+        mut done: GrowingList<T::Entry>,
+        item: &Value,
+    ) -> Result<GrowingList<T::Entry>, DocFault> {
+        let entry = reference(alloc, self.table, Some(item))?;
+        let rank = entry.rank();
+        if has_rank(done.as_slice(), rank) {
+            return Err(double_fault(alloc));
+        }
+        let place = count_below(done.as_slice(), rank);
+        done.insert(place, entry)?;
+        Ok(done)
+    }
+}
