@@ -5,3 +5,6 @@ pub mod NameTests
 pub mod Search
 pub mod Meant
 pub mod EachMeant
+pub mod SortedOnce
+pub mod NamesMeant
+pub mod SetsMeant
