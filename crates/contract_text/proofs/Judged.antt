@@ -109,6 +109,9 @@ verdict_tells : (text : List ℕ) (v : Verdict) → verdict text ≡ v → Tells
 unfolding verdict
 verdict_tells text v is = subst (Tells text) is (told_tells text (reading text) (reading_means text))
 
+pub verdict_contract : (text : List ℕ) (typed : List Op) → verdict text ≡ accepted typed → IsContract text typed
+verdict_contract text typed e = verdict_tells text (accepted typed) e
+
 pub given_contract : (text : List ℕ) (answer : Result Contract TextFault) → Gives answer (verdict text) → IfOk answer (λ contract. IsContract text (map op_of contract.ops))
 given_contract text (Ok contract) h = verdict_tells text _ h
 given_contract text (Err f) h = tt

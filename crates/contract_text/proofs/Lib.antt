@@ -6,3 +6,4 @@ pub mod Names
 pub mod Fine
 pub mod Judged
 pub mod First
+pub mod Accepted

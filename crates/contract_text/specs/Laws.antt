@@ -1,11 +1,28 @@
 -- What holds of the second pass.
-use Rattle.std.specs.Prelude.{List}
+use Rattle.std.specs.Prelude.{◌≡◌, ℕ, List, length, map}
+use Rattle.std.specs.List.{All}
 use Rattle.contract_grammar.specs.declared.token.Placed.{Placed}
-use Rattle.contract_grammar.specs.Tree.{Op}
+use Rattle.contract_grammar.specs.Tree as raw
 use Rattle.contract_grammar.specs.Grammar.{SpellsContract}
 use Rattle.contract_grammar.specs.Limits.{IsWithinLimits}
+use Rattle.txn_types.specs.Names.{IsName}
+use Rattle.oxii_defs.specs.Syntax.{Op}
+use Rattle.oxii_defs.specs.WellFormed.{AllDiffer, IsWellFormed}
+use Rattle.oxii_defs.specs.Lawful.{IsUpTo}
 use Rattle.contract_text.specs.Room.{AreBounded}
+use Rattle.contract_text.specs.Verdict.{accepted, verdict}
 
 -- the limits of the tokens are limits of the operations
 abbrev pub LimitsBoundOperations : Type 0
-LimitsBoundOperations = (ts : List Placed) (os : List Op) → SpellsContract ts os → IsWithinLimits ts → AreBounded os
+LimitsBoundOperations = (ts : List Placed) (os : List raw.Op) → SpellsContract ts os → IsWithinLimits ts → AreBounded os
+
+-- 1 to 16 well-formed operations, whose names are names and differ
+pub record AreLawfulOps (ops : List Op) : Type 0 where
+  pub count : IsUpTo 16 (length ops)
+  pub named : All (λ op. IsName op.name) ops
+  pub names : AllDiffer (map (λ op. op.name) ops)
+  pub fine : All IsWellFormed ops
+
+-- what an accepted text stands for can be the operations of an application
+abbrev pub AcceptedContractsAreLawful : Type 0
+AcceptedContractsAreLawful = (text : List ℕ) (ops : List Op) → verdict text ≡ accepted ops → AreLawfulOps ops

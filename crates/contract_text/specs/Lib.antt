@@ -7,9 +7,10 @@ pub use Rattle.contract_grammar.specs.Reading
 pub use Rattle.txn_core.specs.Meant
 pub use Rattle.oxii_defs.specs.Syntax
 pub use Rattle.oxii_defs.specs.WellFormed
+pub use Rattle.oxii_defs.specs.Lawful
 pub mod Symbols
 pub mod Flaws
 pub mod Typed
 pub mod Room
-pub mod Laws
 pub mod Verdict
+pub mod Laws

@@ -15,6 +15,6 @@ mod tests;
 
 pub use faults::{Contract, TextFault};
 pub use flaws::{Flaw, FlawKind, ValueKind};
-pub use laws::limits_bound_operations;
+pub use laws::{accepted_contracts_are_lawful, limits_bound_operations};
 pub use reading::read_contract;
 pub use symbols::Symbol;

@@ -4,6 +4,7 @@ ghost use Rattle.contract_grammar.specs.Tree.{operation, operations};
 ghost use Rattle.contract_grammar.specs.Reading.{reading};
 ghost use Rattle.oxii_defs.specs.WellFormed.{IsWellFormed, AllDiffer};
 ghost use Rattle.txn_core.specs.Meant.{op_of};
+ghost use Rattle.contract_text.specs.Laws.{AreLawfulOps};
 ghost use Rattle.contract_text.specs.Room.{HasRoomInOp};
 ghost use Rattle.contract_text.specs.Flaws.{first_flaw};
 ghost use Rattle.contract_text.specs.Verdict.{judged, told, verdict, Gives, flawed, IsContract, HasFault};
@@ -71,6 +72,8 @@ pub fn read_contract(alloc: Global, text: &str) -> Result<Contract, TextFault>
     // No two operations have one name.
     ensures names { IfOk result (λ contract. AllDiffer (map (λ op. op.name) (map op_of contract.ops))) }
     ensures count { IfOk result (λ contract. length contract.ops ≤ 16) }
+    // The operations can be those of an application.
+    ensures lawful { IfOk result (λ contract. AreLawfulOps (map op_of contract.ops)) }
 {
     read_exactly(alloc, text.as_bytes())
 }

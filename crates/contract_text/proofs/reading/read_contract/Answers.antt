@@ -1,5 +1,6 @@
 use Rattle.std.proofs.Common.{sym}
 use Rattle.contract_text.proofs.Judged.{given_contract, given_fault, given_fine, given_names, given_count}
+use Rattle.contract_text.proofs.Accepted.{given_lawful}
 use Rattle.contract_text.proofs.reading.read_contract.Goals as goal
 
 pub returns-clause-fine : goal.returns-clause-fine
@@ -16,3 +17,6 @@ returns-clause-contract c = rw (sym c.as_bytes.ensures.value) (given_contract c.
 
 pub returns-clause-fault : goal.returns-clause-fault
 returns-clause-fault c = rw (sym c.as_bytes.ensures.value) (given_fault c.as_bytes.result.now c.read_exactly.result c.read_exactly.ensures)
+
+pub returns-clause-lawful : goal.returns-clause-lawful
+returns-clause-lawful c = given_lawful c.as_bytes.result.now c.read_exactly.result c.read_exactly.ensures
