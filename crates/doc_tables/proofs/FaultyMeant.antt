@@ -1,0 +1,25 @@
+-- The faulty nodes are read exactly where the document says them.
+use Rattle.std.proofs.Common.{◌≡◌, ◌≤◌, ℕ, List, length, map, Ok, codes}
+use Rattle.serde_json.specs.Data.{Members}
+use Rattle.serde_json.specs.Find.{get_member}
+use Rattle.txn_types.specs.declared.message.Node.{Node}
+use Rattle.txn_types.specs.Nodes.{rank_of}
+use Rattle.txn_types.specs.Rising.{IsRising}
+use Rattle.doc_forms.specs.declared.fault.Which.TheVariants as word
+use Rattle.doc_forms.specs.Tables.{node_named}
+use Rattle.doc_forms.proofs.SetsMeant.{set_at_means, set_at_reads, set_count}
+use Rattle.doc_tables.specs.Faulty.{faulty, SaysFaulty}
+
+pub faulty_means : (orderers peers : List (List ℕ)) (ms : Members) (nodes : List Node) → faulty orderers peers ms ≡ Ok nodes → SaysFaulty orderers peers ms nodes
+unfolding faulty
+faulty_means orderers peers ms nodes e = set_at_means rank_of (node_named orderers peers) (codes "faulty") 0 32 word.Faulty ms nodes e
+
+pub faulty_reads : (orderers peers : List (List ℕ)) (ms : Members) (nodes : List Node) → SaysFaulty orderers peers ms nodes → faulty orderers peers ms ≡ Ok nodes
+unfolding faulty
+faulty_reads orderers peers ms nodes s = set_at_reads rank_of (node_named orderers peers) (codes "faulty") 0 32 word.Faulty ms nodes s
+
+-- they fit into a set of nodes
+pub faulty_fit : (orderers peers : List (List ℕ)) (ms : Members) (nodes : List Node) → faulty orderers peers ms ≡ Ok nodes → (length nodes ≤ 32) × IsRising (map rank_of nodes)
+faulty_fit orderers peers ms nodes e =
+    let s = faulty_means orderers peers ms nodes e in
+    ((set_count rank_of (node_named orderers peers) 0 32 (get_member (codes "faulty") ms) nodes s).1, s.rising)

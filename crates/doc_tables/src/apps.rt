@@ -1,0 +1,258 @@
+//! The applications.
+
+ghost use Rattle.std.specs.Prelude.{◌≡◌, ◌≤◌, ◌<◌, ◌^◌, [], Err, length, map, codes};
+ghost use Rattle.std.specs.List.{list_any};
+ghost use Rattle.std.specs.Str.{bytes_eq};
+ghost use Rattle.serde_json.specs.View.{view, items_view, members_view};
+ghost use Rattle.txn_core.specs.Meant.{op_of};
+ghost use Rattle.txn_core.specs.MeantTable.{app_of};
+ghost use Rattle.contract_text.specs.Verdict.{Verdict, Gives as GivesText};
+ghost use Rattle.doc_forms.specs.declared.fault.Which.TheVariants.{Clients, Tau};
+ghost use Rattle.doc_forms.specs.Check.{Gives, Fails};
+ghost use Rattle.doc_forms.specs.Forms.{seen, each, list_at, number_at};
+ghost use Rattle.doc_forms.specs.Tables.{has_name, new_name};
+ghost use Rattle.doc_tables.specs.Apps.{names_of, unused, unused_at, told, text_read, contract, contract_at, agents_at, no_others, application, app_in, next_app, apps_in, apps};
+
+use contract_text::{TextFault, read_contract};
+use doc_forms::{
+    DocFault, NewName, NewReference, Which, at, at_item, double_fault, field_fault, list_at,
+    list_in, member, name, number_at, object, only,
+};
+use serde_json::{Map, Value};
+use std::alloc::Global;
+use txn_core::{App, Apps, Ops};
+use txn_types::{GrowingList, Name, Names, PeerSet};
+
+fn some_is_named(apps: &[App], text: &[u8]) -> bool
+    ensures { result ≡ list_any (λ app. bytes_eq app.name text.now) apps.now }
+{
+    apps.iter().any(|app| app.name.as_slice() == text)
+}
+
+/// Whether an application has this name.
+fn is_taken(before: &[App], text: &[u8]) -> bool
+    ensures { result ≡ has_name (names_of (map app_of before.now)) text.now }
+{
+    some_is_named(before, text)
+}
+
+/// A name that no application before it has.
+#[tactic(auto, unfolding(crate::specs::Apps::unused))]
+fn unused(alloc: Global, before: &[App], value: Option<&Value>) -> Result<Name, DocFault>
+    ensures { Gives (λ text. text) result (unused (map app_of before.now) (seen value.entry)) }
+{
+    let text = name(alloc, value)?;
+    if is_taken(before, text.as_slice()) {
+        return Err(double_fault(alloc));
+    }
+    Ok(text)
+}
+
+#[tactic(auto, unfolding(crate::specs::Apps::unused_at))]
+fn unused_at(
+    alloc: Global,
+    key: &str,
+    before: &[App],
+    members: &Map<String, Value>,
+) -> Result<Name, DocFault>
+    ensures { Gives (λ text. text) result (unused_at key.now (map app_of before.now) (members_view members.now.entries)) }
+{
+    at(alloc, key, unused(alloc, before, member(members, key)))
+}
+
+/// The fault of an application's contract.
+fn contract_fault(app: u32, fault: TextFault) -> DocFault
+    ensures { (v : Verdict) → GivesText (Err fault) v → Fails result (told app v) }
+{
+    match fault {
+        TextFault::OutOfMemory => DocFault::OutOfMemory,
+        fault => DocFault::Contract { app, fault },
+    }
+}
+
+/// The operations of a text of at most 65,536 bytes.
+#[tactic(auto, unfolding(crate::specs::Apps::text_read))]
+fn text_read(alloc: Global, app: u32, text: &str) -> Result<Ops, DocFault>
+    ensures { Gives (λ ops. map op_of ops) result (text_read app text.now) }
+{
+    if text.len() > 65536 {
+        return Err(DocFault::Limit {
+            which: Which::Contract,
+            limit: 65536,
+        });
+    }
+    match read_contract(alloc, text) {
+        Ok(contract) => Ok(contract.ops),
+        Err(fault) => Err(contract_fault(app, fault)),
+    }
+}
+
+/// The operations of the contract of the application with this index.
+#[tactic(auto, unfolding(crate::specs::Apps::contract))]
+fn contract(alloc: Global, app: u32, value: Option<&Value>) -> Result<Ops, DocFault>
+    ensures { Gives (λ ops. map op_of ops) result (contract app (seen value.entry)) }
+{
+    let Some(value) = value else {
+        return Err(field_fault(alloc));
+    };
+    let Some(text) = value.as_str() else {
+        return Err(field_fault(alloc));
+    };
+    text_read(alloc, app, text)
+}
+
+#[tactic(auto, unfolding(crate::specs::Apps::contract_at))]
+fn contract_at(
+    alloc: Global,
+    key: &str,
+    app: u32,
+    members: &Map<String, Value>,
+) -> Result<Ops, DocFault>
+    ensures { Gives (λ ops. map op_of ops) result (contract_at key.now app (members_view members.now.entries)) }
+{
+    at(alloc, key, contract(alloc, app, member(members, key)))
+}
+
+#[tactic(auto, unfolding(crate::specs::Apps::agents_at))]
+fn agent_list(
+    alloc: Global,
+    peers: &Names,
+    members: &Map<String, Value>,
+) -> Result<GrowingList<u8>, DocFault>
+    ensures { Gives (λ agents. agents) result (agents_at peers.now (members_view members.now.entries)) }
+{
+    list_at(
+        alloc,
+        members,
+        "agents",
+        1,
+        16,
+        Which::Agents,
+        &NewReference { table: peers },
+        GrowingList::new(alloc),
+    )
+}
+
+/// The agents, among the peers.
+#[tactic(auto, using(crate::proofs::AppsMeant::agents_fit))]
+fn agents_at(
+    alloc: Global,
+    peers: &Names,
+    members: &Map<String, Value>,
+) -> Result<PeerSet, DocFault>
+    ensures { Gives (λ agents. agents) result (agents_at peers.now (members_view members.now.entries)) }
+{
+    let list = agent_list(alloc, peers, members)?;
+    Ok(PeerSet::of(list.as_slice()))
+}
+
+/// How many votes agree, of so many agents.
+#[tactic(auto, using(crate::proofs::AppsMeant::votes_fit))]
+fn votes_at(alloc: Global, count: usize, members: &Map<String, Value>) -> Result<u8, DocFault>
+    requires { count ≤ 16 }
+    ensures { Gives (λ n. n) result (number_at (codes "tau") 1 count Tau (members_view members.now.entries)) }
+{
+    let n = number_at(alloc, members, "tau", 1, count as u64, Which::Tau)?;
+    Ok(n as u8)
+}
+
+fn clients_at(alloc: Global, members: &Map<String, Value>) -> Result<Names, DocFault>
+    ensures { Gives (λ names. names) result (list_at (codes "clients") 0 64 Clients (new_name []) [] (members_view members.now.entries)) }
+{
+    list_at(
+        alloc,
+        members,
+        "clients",
+        0,
+        64,
+        Which::Clients,
+        &NewName { taken: &[] },
+        Names::new(alloc),
+    )
+}
+
+#[tactic(auto, unfolding(crate::specs::Apps::no_others))]
+fn no_others(alloc: Global, members: &Map<String, Value>) -> Result<(), DocFault>
+    ensures { Gives (λ u. u) result (no_others (members_view members.now.entries)) }
+{
+    only(
+        alloc,
+        &["name", "agents", "tau", "clients", "contract"],
+        members,
+    )
+}
+
+/// An application behind those before it.
+#[tactic(auto, unfolding(crate::specs::Apps::application))]
+fn application(
+    alloc: Global,
+    peers: &Names,
+    before: &[App],
+    members: &Map<String, Value>,
+) -> Result<App, DocFault>
+    requires { length before.now < 2 ^ 32 }
+    ensures { Gives app_of result (application peers.now (map app_of before.now) (members_view members.now.entries)) }
+{
+    let name = unused_at(alloc, "name", before, members)?;
+    let agents = agents_at(alloc, peers, members)?;
+    let tau = votes_at(alloc, agents.as_slice().len(), members)?;
+    let clients = clients_at(alloc, members)?;
+    let ops = contract_at(alloc, "contract", before.len() as u32, members)?;
+    no_others(alloc, members)?;
+    Ok(App {
+        name,
+        agents,
+        tau,
+        clients,
+        ops,
+    })
+}
+
+/// The application that an item is.
+#[tactic(auto, unfolding(crate::specs::Apps::app_in))]
+fn app_in(alloc: Global, peers: &Names, before: &[App], item: &Value) -> Result<App, DocFault>
+    requires { length before.now < 2 ^ 32 }
+    ensures { Gives app_of result (app_in peers.now (map app_of before.now) (view item.now)) }
+{
+    let members = object(alloc, Some(item))?;
+    application(alloc, peers, before, members)
+}
+
+/// The applications, one after another.
+fn each_app(alloc: Global, peers: &Names, list: &[Value]) -> Result<Apps, DocFault>
+    requires { length list.now ≤ 16 }
+    ensures { Gives (λ done. map app_of done) result (each (next_app peers.now) 0 [] (items_view list.now)) }
+{
+    let mut done = Apps::new(alloc);
+    let mut i = 0u32;
+    for item in list {
+        let app = at_item(i, app_in(alloc, peers, done.as_slice(), item))?;
+        done.push(app)?;
+        i += 1;
+    }
+    Ok(done)
+}
+
+#[tactic(auto, unfolding(crate::specs::Apps::apps_in, doc_forms::specs::Forms::items))]
+fn apps_in(alloc: Global, peers: &Names, value: Option<&Value>) -> Result<Apps, DocFault>
+    ensures { Gives (λ list. map app_of list) result (apps_in peers.now (seen value.entry)) }
+{
+    let list = list_in(alloc, 1, 16, Which::Apps, value)?;
+    each_app(alloc, peers, list.as_slice())
+}
+
+/// The applications, whose agents are among the peers.
+#[tactic(auto, unfolding(crate::specs::Apps::apps))]
+pub fn read_apps(
+    alloc: Global,
+    peers: &Names,
+    members: &Map<String, Value>,
+) -> Result<Apps, DocFault>
+    ensures { Gives (λ list. map app_of list) result (apps peers.now (members_view members.now.entries)) }
+{
+    at(
+        alloc,
+        "apps",
+        apps_in(alloc, peers, member(members, "apps")),
+    )
+}
