@@ -1,0 +1,6 @@
+pub mod Bounds
+pub mod RequestsMeant
+pub mod ConfigsMeant
+pub mod Counts
+pub mod StreamMeant
+pub mod StreamLawful
