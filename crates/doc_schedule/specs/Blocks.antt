@@ -1,0 +1,107 @@
+-- The blocks of false messages.
+use Rattle.std.specs.Prelude.{ℕ, ◌+◌, ◌==◌, ◌&&◌, Bool, true, false, List, [], ◌∷◌, ◌++◌, codes, length, Option, Some, None, Result, Ok, Err, nat_lt, if◌then◌else◌, slice_get, is_some}
+use Rattle.std.specs.List.{list_all}
+use Rattle.std.specs.Borrow.{Bor}
+use Rattle.serde_json.specs.Data.{Data, Items, no_items, item, Members}
+use Rattle.serde_json.specs.Find.{as_array}
+use Rattle.serde_json.specs.Events.{items_len}
+use Rattle.serde_json.specs.View.{view}
+use Rattle.serde_json.specs.declared.value.Value.{Value}
+use Rattle.doc_forms.specs.declared.fault.Which.TheVariants as word
+use Rattle.doc_forms.specs.Faults.{Fault, Field, Limit}
+use Rattle.doc_forms.specs.Check.{◌>>=◌}
+use Rattle.doc_forms.specs.Forms.{at, wanted, each, items, list_in, only}
+use Rattle.doc_schedule.specs.declared.tables.Slot.{Slot}
+use Rattle.doc_schedule.specs.declared.tables.Slot.TheVariants.{Barred, Call, Config}
+use Rattle.doc_schedule.specs.Places.{place_in}
+use Rattle.doc_schedule.specs.Hashes.{prev_at}
+
+-- a slot that may be missing, without where it lies in memory
+abbrev pub slot_at : Option (Bor Slot) → Option Slot
+slot_at None = None
+slot_at (Some s) = Some s.now
+
+-- a request may stand among others, a configuration alone
+abbrev pub may_stand : Bool → Option Slot → Bool
+may_stand alone None = false
+may_stand alone (Some Barred) = false
+may_stand alone (Some Call) = true
+may_stand alone (Some Config) = alone
+
+-- the place of an item that may stand there
+unfoldable pub next_txn : List Slot → Bool → List ℕ → Data → Result (List ℕ) Fault
+next_txn slots alone before d = do
+  place ← place_in (length slots) word.Item (Some d)
+  if may_stand alone (slice_get slots place) then Ok (before ++ place ∷ []) else Err (Field [])
+
+-- as many items as the limit of all lists together leaves room for: the sum is tested before the items
+unfoldable pub txns_within : List Slot → ℕ → Items → Result (List ℕ) Fault
+txns_within slots total ds = if nat_lt 16384 (total + items_len ds) then Err (Limit word.FalseTxns 16384) else each (next_txn slots (items_len ds == 1)) 0 [] ds
+
+unfoldable pub txns_of : List Slot → ℕ → Option Data → Result (List ℕ) Fault
+txns_of slots total v = do
+  ds ← list_in 1 256 word.Txns v
+  txns_within slots total ds
+
+-- the items of a `block` event, behind so many items of the events before it
+unfoldable pub txns_at : List Slot → ℕ → Members → Result (List ℕ) Fault
+txns_at slots total ms = at (codes "txns") ms (txns_of slots total)
+
+unfoldable pub next_pred : List ℕ → Data → Result (List ℕ) Fault
+next_pred before d = do
+  place ← place_in 256 word.Preds (Some d)
+  Ok (before ++ place ∷ [])
+
+unfoldable pub next_preds : List (List ℕ) → Data → Result (List (List ℕ)) Fault
+next_preds before d = do
+  places ← items 0 256 word.Preds next_pred [] (Some d)
+  Ok (before ++ places ∷ [])
+
+unfoldable pub are_arrays : Items → Bool
+are_arrays no_items = true
+are_arrays (item d ds) = is_some (as_array d) && are_arrays ds
+
+-- the same of values
+unfoldable pub is_array_value : Value → Bool
+is_array_value v = is_some (as_array (view v))
+
+unfoldable pub are_array_values : List Value → Bool
+are_array_values vs = list_all is_array_value vs
+
+-- so many arrays: that is tested before anything in them
+unfoldable pub lists_of : ℕ → Items → Result (List (List ℕ)) Fault
+lists_of count ds = if (items_len ds == count) && are_arrays ds then each next_preds 0 [] ds else Err (Field [])
+
+-- a graph, which may be left out
+unfoldable pub preds : ℕ → Option Data → Result (Option (List (List ℕ))) Fault
+preds count None = Ok None
+preds count (Some d) = do
+  ds ← wanted (as_array d)
+  lists ← lists_of count ds
+  Ok (Some lists)
+
+abbrev pub is_config : Option Slot → Bool
+is_config None = false
+is_config (Some Barred) = false
+is_config (Some Call) = false
+is_config (Some Config) = true
+
+abbrev pub first_slot : List Slot → List ℕ → Option Slot
+first_slot slots [] = None
+first_slot slots (i ∷ rest) = slice_get slots i
+
+-- how many transactions the items are: a configuration stands alone and is none
+unfoldable pub count_of : List Slot → List ℕ → ℕ
+count_of slots items = if is_config (first_slot slots items) then 0 else length items
+
+-- the graph of a `block` event with these items
+unfoldable pub preds_at : List Slot → List ℕ → Members → Result (Option (List (List ℕ))) Fault
+preds_at slots items ms = at (codes "preds") ms (preds (count_of slots items))
+
+-- the previous hash and the graph of a `block` event with these items, behind which no other key is listed
+unfoldable pub links_at : List Slot → List ℕ → Members → Result (Option (List ℕ) × Option (List (List ℕ))) Fault
+links_at slots items ms = do
+  prev ← prev_at ms
+  preds ← preds_at slots items ms
+  end ← only (codes "do" ∷ codes "from" ∷ codes "number" ∷ codes "txns" ∷ codes "prev" ∷ codes "preds" ∷ []) ms
+  Ok (prev, preds)

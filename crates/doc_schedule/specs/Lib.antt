@@ -1,0 +1,10 @@
+pub use Rattle.node_defs.specs.Same
+pub use Rattle.doc_forms.specs.Faults
+pub use Rattle.doc_forms.specs.Check
+pub use Rattle.doc_forms.specs.Meaning
+pub mod Tables
+pub mod Places
+pub mod Votes
+pub mod Hashes
+pub mod Blocks
+pub mod Schedule
