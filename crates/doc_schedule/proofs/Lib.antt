@@ -1,2 +1,8 @@
 pub mod Arrays
-pub mod Counts
+pub mod EndsMeant
+pub mod TablesMeant
+pub mod VotesMeant
+pub mod BlocksMeant
+pub mod Counted
+pub mod ScheduleMeant
+pub mod ScheduleLaw

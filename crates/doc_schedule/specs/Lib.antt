@@ -8,3 +8,4 @@ pub mod Votes
 pub mod Hashes
 pub mod Blocks
 pub mod Schedule
+pub mod ScheduleMeaning

@@ -11,9 +11,9 @@ use Rattle.txn_types.specs.declared.txn.Outcome.TheVariants.{Commit, Abort}
 use Rattle.txn_types.specs.declared.message.Vote.{Vote}
 use Rattle.doc_forms.specs.declared.fault.Step.TheVariants.{Key}
 use Rattle.doc_forms.specs.declared.fault.Which.TheVariants as word
-use Rattle.doc_forms.specs.Faults.{Fault, Field, Limit}
+use Rattle.doc_forms.specs.Faults.{Fault, Limit}
 use Rattle.doc_forms.specs.Check.{◌>>=◌, within}
-use Rattle.doc_forms.specs.Forms.{at, wanted, each, items, list_in, object, only}
+use Rattle.doc_forms.specs.Forms.{at, wanted, each, list_in, object, only}
 use Rattle.doc_schedule.specs.Places.{place_in}
 
 unfoldable pub reason_of : List ℕ → Option Reason
