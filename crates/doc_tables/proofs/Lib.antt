@@ -1,5 +1,1 @@
-pub mod Mapped
-pub mod Turns
-pub mod AppsMeant
-pub mod FaultyMeant
-pub mod AppsLawful
+pub mod RecordsKept

@@ -1,0 +1,23 @@
+-- What a list of records and its reading keep.
+use Rattle.std.proofs.Common.{◌≡◌, ℕ, ◌≤◌, List, ◌∷◌, length, Result, Ok, Err, IfOk, Option, take, drop, arith, refl}
+use Rattle.std.specs.List.{insert}
+use Rattle.std.proofs.lemmas.List.Elements.{All-append, All-cons, All-drop, All-take}
+use Rattle.std.proofs.lemmas.List.Edits.{length-insert}
+use Rattle.serde_json.specs.Data.{Data}
+use Rattle.txn_types.specs.Values.{IsValue, AreValues}
+use Rattle.doc_forms.specs.declared.fault.Which.TheVariants as word
+use Rattle.doc_forms.specs.declared.fault.DocFault.{DocFault}
+use Rattle.doc_forms.specs.Check.{Gives}
+use Rattle.doc_forms.specs.Forms.{number_in}
+use Rattle.doc_forms.proofs.Meant.{number_means}
+
+pub read_value : (v : Option Data) (answer : Result ℕ DocFault) → Gives (λ n. n) answer (number_in 0 4611686018427387903 word.Value v) → IfOk answer IsValue
+read_value v (Ok n) h = (number_means 0 4611686018427387903 word.Value v n h).2
+read_value v (Err f) h = tt
+
+-- a value put among values
+pub values_after : (values : List ℕ) (place n : ℕ) → AreValues values → IsValue n → AreValues (insert values place n)
+values_after values place n all one = All-append IsValue (take place values) (n ∷ drop place values) (All-take IsValue place values all) (All-cons IsValue n (drop place values) one (All-drop IsValue place values all))
+
+pub lengths_after : (names : List (List ℕ)) (values : List ℕ) (place : ℕ) (text : List ℕ) (n : ℕ) → length values ≡ length names → place ≤ length names → length (insert values place n) ≡ length (insert names place text)
+lengths_after names values place text n is le = rw (length-insert values place n (omega (arith, is, le)), length-insert names place text le, is) refl
