@@ -1,1 +1,3 @@
 pub mod RecordsKept
+pub mod RecordsSorted
+pub mod RecordsMeant
