@@ -3,6 +3,9 @@ pub use Rattle.oxii_defs.specs.Lawful
 pub use Rattle.oxii_defs.specs.Chain
 pub use Rattle.oxii_defs.specs.Lines
 pub use Rattle.node_defs.specs.Text
+pub use Rattle.node_defs.specs.Ledger
 pub use Rattle.node_defs.specs.GraphText
 pub use Rattle.txn_core.specs.MeantTable
 pub use Rattle.txn_core.specs.States
+pub use Rattle.hash_ledger.specs.Ledgers
+pub mod Parts

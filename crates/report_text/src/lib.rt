@@ -3,8 +3,11 @@
 
 mod graph;
 mod lines;
+mod parts;
+mod peer;
 mod state;
 
 pub use graph::{push_graph_block, push_rejects};
 pub use lines::{push_blocks_line, push_entry_lines, push_number, push_peer_line, push_tail};
+pub use parts::{head, peer_part, tail};
 pub use state::push_state;

@@ -7,6 +7,7 @@ ghost use Rattle.oxii_defs.specs.Lawful.{IsLawfulConfig};
 ghost use Rattle.oxii_defs.specs.Chain.{IsLawfulBlock};
 ghost use Rattle.oxii_defs.specs.BlockBytes.{peer_name};
 ghost use Rattle.oxii_defs.specs.Lines.{reason_word, entry_text, entry_part, entries_text, outcome_text, block_line, txn_line, txn_lines, config_line, body_lines, entry_lines, peer_line, blocks_line, tail_lines};
+ghost use Rattle.node_defs.specs.Text.{written_text};
 ghost use Rattle.hex.specs.Hex.{encode_lower};
 ghost use Rattle.txn_core.specs.MeantTable.{table_of};
 
@@ -81,6 +82,29 @@ fn push_entries(
     Ok(())
 }
 
+/// An outcome of a transaction that writes these records.
+pub fn push_written(
+    text: &mut Text,
+    table: &Table,
+    writes: &[u16],
+    outcome: &Outcome,
+) -> Result<(), OutOfMemory>
+    requires { AllByRecursion (IsRecord (table_of table.now)) writes.now }
+    ensures { OnOk result (text.new ≡ text.old ++ written_text (table_of table.now) writes.now outcome.now) }
+{
+    match outcome {
+        Outcome::Commit(entries) => {
+            text.append(b"commit")?;
+            push_entries(text, table, writes, entries.as_slice())
+        }
+        Outcome::Abort(reason) => {
+            text.append(b"abort ")?;
+            text.append(reason_word(*reason))
+        }
+    }
+}
+
+#[tactic(auto, using(crate::proofs::Outcomes::outcome_is_written))]
 fn push_outcome(
     text: &mut Text,
     table: &Table,
@@ -90,16 +114,7 @@ fn push_outcome(
     requires { IsLawfulTxn (table_of table.now) txn.now }
     ensures { OnOk result (text.new ≡ text.old ++ outcome_text (table_of table.now) txn.now outcome.now) }
 {
-    match outcome {
-        Outcome::Commit(writes) => {
-            text.append(b"commit")?;
-            push_entries(text, table, txn.writes.as_slice(), writes.as_slice())
-        }
-        Outcome::Abort(reason) => {
-            text.append(b"abort ")?;
-            text.append(reason_word(*reason))
-        }
-    }
+    push_written(text, table, txn.writes.as_slice(), outcome)
 }
 
 // The line of the transaction with this number, counted from 1.
