@@ -1,17 +1,22 @@
 -- A document of the form is refused by no status.
-use Rattle.std.proofs.Common.{◌≡◌, ◌≤◌, ◌⊎◌, ℕ, List, ◌++◌, length, Option, Some, None, arith, refl, sym, ap, subst, ◌∙◌, inl, inr, length-append}
+use Rattle.std.proofs.Common.{◌≡◌, ◌≤◌, ◌⊎◌, ℕ, List, ◌++◌, length, Option, Some, None, Err, arith, refl, sym, ap, subst, ◌∙◌, inl, inr, length-append}
 use Rattle.std.proofs.lemmas.List.{append-nil}
 use Rattle.std.specs.Io.KnownBytes.{Consumes, IsAtEnd}
 use Rattle.par_io.specs.Causes.{Rose}
-use Rattle.first_form.specs.FirstForm.{Transfers, Means, tree_of, document_node}
-use Rattle.first_form.specs.declared.fault.DocFault.{DocFault}
-use Rattle.first_form.specs.declared.fault.DocFault.TheVariants as fault
+use Rattle.contract_text.specs.declared.faults.TextFault.TheVariants as text
+use Rattle.doc_forms.specs.declared.fault.DocFault.{DocFault}
+use Rattle.doc_forms.specs.declared.fault.DocFault.TheVariants as fault
+use Rattle.input_doc.specs.Inputs.{Input}
+use Rattle.doc_forms.specs.Faults.{Fault}
+use Rattle.doc_forms.specs.Check.{Fails}
+use Rattle.input_doc.specs.Reading.{reading}
+use Rattle.input_doc.specs.Means.{Means, ExactlyOne}
 use Rattle.par_top.specs.declared.status.Status.{Status}
 use Rattle.par_top.specs.declared.status.Status.TheVariants as status
 use Rattle.par_top.specs.declared.command.Command.{Command}
 use Rattle.par_top.specs.Commands.{Takes}
-use Rattle.par_top.specs.Faults.{IsOther}
-use Rattle.par_top.specs.Top.{IsRefusal, document_limit}
+use Rattle.par_top.specs.Faults.{HasFault}
+use Rattle.par_top.specs.Top.{HasRead, IsHeadline, IsPart, IsRefusal, IsRefusedFor, refusal, document_limit}
 
 -- what was read to the end of a source that tells its bytes is all of them
 all_read : (bytes taken : List ℕ) (new : Option (List ℕ)) → Consumes (Some bytes) new taken → IsAtEnd new → taken ≡ bytes
@@ -22,38 +27,137 @@ no_more : (bytes taken : List ℕ) (new : Option (List ℕ)) → Consumes (Some 
 no_more bytes taken None consumed = absurd consumed
 no_more bytes taken (Some rest) consumed = omega (arith, length-append taken rest, ap length consumed)
 
-has_tree : (bytes : List ℕ) (d : Transfers) → Means bytes d → tree_of bytes ≡ None → ⊥
-has_tree bytes d means none = let is = means.1 in cc
+-- bytes that mean an input have no fault
+no_fault : (command : Command) (bytes : List ℕ) (input : Input) (f : DocFault) → ExactlyOne bytes → Means bytes input → Takes command input → HasFault command bytes f → ⊥
+no_fault command bytes input fault.NotJson once means taken h = once.not_both input _ means h
+no_fault command bytes input (fault.Field path) once means taken h = once.not_both input _ means h
+no_fault command bytes input (fault.Limit which limit) once means taken h = once.not_both input _ means h
+no_fault command bytes input (fault.Contract app text.OutOfMemory) once means taken h = h
+no_fault command bytes input (fault.Contract app (text.Syntax at)) once means taken h = once.not_both input _ means h
+no_fault command bytes input (fault.Contract app (text.UnknownName at)) once means taken h = once.not_both input _ means h
+no_fault command bytes input (fault.Contract app (text.Kind at)) once means taken h = once.not_both input _ means h
+no_fault command bytes input (fault.Contract app (text.Limit at)) once means taken h = once.not_both input _ means h
+no_fault command bytes input (fault.Contract app (text.Double at)) once means taken h = once.not_both input _ means h
+no_fault command bytes input (fault.Name path) once means taken h = once.not_both input _ means h
+no_fault command bytes input (fault.Double path) once means taken h = once.not_both input _ means h
+no_fault command bytes input fault.NotYet once means taken h = h.other (subst (λ (i : Input). Takes command i) (once.one_meaning input h.input means h.means) taken)
+no_fault command bytes input fault.OutOfMemory once means taken h = h
 
-of_form : (command : Command) (bytes : List ℕ) (d : Transfers) → Means bytes d → Takes command d → IsOther command bytes → ⊥
-of_form command bytes d means taken other =
-    let is = means.1 in
-    let read = other.read in
-    let same : other.tree ≡ document_node d = cc in
-    other.form d (means.0, same) taken
-
-no_refusal : (command : Command) (bytes : List ℕ) (new : Option (List ℕ)) (d : Transfers) (f : DocFault) → length bytes ≤ document_limit → Means bytes d → Takes command d → IsRefusal command (Some bytes) new f → ⊥
-no_refusal command bytes new d fault.NotJson short means taken refusal =
-    has_tree bytes d means (subst (λ (xs : List ℕ). tree_of xs ≡ None) (all_read bytes refusal.bytes new refusal.read.taken refusal.read.end) refusal.is)
-no_refusal command bytes new d (fault.Limit which limit) short means taken refusal =
-    omega (arith, no_more bytes refusal.2.0 new refusal.2.1, refusal.2.2)
-no_refusal command bytes new d fault.NotYet short means taken refusal =
-    of_form command bytes d means taken (subst (IsOther command) (all_read bytes refusal.bytes new refusal.read.taken refusal.read.end) refusal.is)
-no_refusal command bytes new d fault.OutOfMemory short means taken refusal = refusal
+no_refusal : (command : Command) (bytes : List ℕ) (new : Option (List ℕ)) (input : Input) (f : DocFault) → ((bytes : List ℕ) → ExactlyOne bytes) → length bytes ≤ document_limit → Means bytes input → Takes command input → IsRefusal command (Some bytes) new f → ⊥
+no_refusal command bytes new input f once short means taken (inl long) = omega (arith, no_more bytes long.1.0 new long.1.1, long.1.2)
+no_refusal command bytes new input f once short means taken (inr is) =
+    no_fault command bytes input f (once bytes) means taken (subst (λ (xs : List ℕ). HasFault command xs f) (all_read bytes is.bytes new is.read.taken is.read.end) is.is)
 
 -- each other status has a cause that is not there
-pub is_answered : (command : Command) (result : Status) (old new : Option (List ℕ)) (bytes : List ℕ) (d : Transfers) (source source_new sink sink_new : ℕ)
-    → old ≡ Some bytes → length bytes ≤ document_limit → Means bytes d → Takes command d
+pub is_answered : (command : Command) (result : Status) (old new : Option (List ℕ)) (bytes : List ℕ) (input : Input) (source source_new sink sink_new : ℕ)
+    → ((bytes : List ℕ) → ExactlyOne bytes) → old ≡ Some bytes → length bytes ≤ document_limit → Means bytes input → Takes command input
     → ¬ Rose source source_new → ¬ Rose sink sink_new
     → (result ≡ status.Usage → ⊥)
     → ((f : DocFault) → result ≡ status.Refused f → IsRefusal command old new f)
     → (result ≡ status.ReadFault → Rose source source_new)
     → (result ≡ status.WriteFault → Rose sink sink_new)
     → (result ≡ status.Ok) ⊎ (result ≡ status.OutOfMemory)
-is_answered command status.Ok old new bytes d s s' k k' told short means taken read written usage refused read_fault write_fault = inl refl
-is_answered command status.Usage old new bytes d s s' k k' told short means taken read written usage refused read_fault write_fault = absurd (usage refl)
-is_answered command (status.Refused f) old new bytes d s s' k k' told short means taken read written usage refused read_fault write_fault =
-    absurd (no_refusal command bytes new d f short means taken (subst (λ (o : Option (List ℕ)). IsRefusal command o new f) told (refused f refl)))
-is_answered command status.OutOfMemory old new bytes d s s' k k' told short means taken read written usage refused read_fault write_fault = inr refl
-is_answered command status.ReadFault old new bytes d s s' k k' told short means taken read written usage refused read_fault write_fault = absurd (read (read_fault refl))
-is_answered command status.WriteFault old new bytes d s s' k k' told short means taken read written usage refused read_fault write_fault = absurd (written (write_fault refl))
+is_answered command status.Ok old new bytes input s s' k k' once told short means taken read written usage refused read_fault write_fault = inl refl
+is_answered command status.Usage old new bytes input s s' k k' once told short means taken read written usage refused read_fault write_fault = absurd (usage refl)
+is_answered command (status.Refused f) old new bytes input s s' k k' once told short means taken read written usage refused read_fault write_fault =
+    absurd (no_refusal command bytes new input f once short means taken (subst (λ (o : Option (List ℕ)). IsRefusal command o new f) told (refused f refl)))
+is_answered command status.OutOfMemory old new bytes input s s' k k' once told short means taken read written usage refused read_fault write_fault = inr refl
+is_answered command status.ReadFault old new bytes input s s' k k' once told short means taken read written usage refused read_fault write_fault = absurd (read (read_fault refl))
+is_answered command status.WriteFault old new bytes input s s' k k' once told short means taken read written usage refused read_fault write_fault = absurd (written (write_fault refl))
+
+-- bytes with a meaning that the command doesn't take
+
+another_fault : (command : Command) (bytes : List ℕ) (input : Input) (f : DocFault) → ExactlyOne bytes → Means bytes input → HasFault command bytes f → f ≡ fault.NotYet
+another_fault command bytes input fault.NotJson once means h = absurd (once.not_both input _ means h)
+another_fault command bytes input (fault.Field path) once means h = absurd (once.not_both input _ means h)
+another_fault command bytes input (fault.Limit which limit) once means h = absurd (once.not_both input _ means h)
+another_fault command bytes input (fault.Contract app text.OutOfMemory) once means h = absurd h
+another_fault command bytes input (fault.Contract app (text.Syntax at)) once means h = absurd (once.not_both input _ means h)
+another_fault command bytes input (fault.Contract app (text.UnknownName at)) once means h = absurd (once.not_both input _ means h)
+another_fault command bytes input (fault.Contract app (text.Kind at)) once means h = absurd (once.not_both input _ means h)
+another_fault command bytes input (fault.Contract app (text.Limit at)) once means h = absurd (once.not_both input _ means h)
+another_fault command bytes input (fault.Contract app (text.Double at)) once means h = absurd (once.not_both input _ means h)
+another_fault command bytes input (fault.Name path) once means h = absurd (once.not_both input _ means h)
+another_fault command bytes input (fault.Double path) once means h = absurd (once.not_both input _ means h)
+another_fault command bytes input fault.NotYet once means h = refl
+another_fault command bytes input fault.OutOfMemory once means h = absurd h
+
+not_yet : (command : Command) (bytes : List ℕ) (new : Option (List ℕ)) (input : Input) (f : DocFault) → ExactlyOne bytes → length bytes ≤ document_limit → Means bytes input → IsRefusal command (Some bytes) new f → f ≡ fault.NotYet
+not_yet command bytes new input f once short means (inl long) = absurd (omega (arith, no_more bytes long.1.0 new long.1.1, long.1.2))
+not_yet command bytes new input f once short means (inr is) =
+    another_fault command bytes input f once means (subst (λ (xs : List ℕ). HasFault command xs f) (all_read bytes is.bytes new is.read.taken is.read.end) is.is)
+
+-- what a document that is printed means is taken
+was_taken : (command : Command) (old new : Option (List ℕ)) (bytes lines : List ℕ) (input : Input) → ExactlyOne bytes → old ≡ Some bytes → Means bytes input → HasRead command old new lines → Takes command input
+was_taken command old new bytes lines input once told means read =
+    let same : read.bytes ≡ bytes = all_read bytes read.bytes new (subst (λ (o : Option (List ℕ)). Consumes o new read.bytes) told read.read.taken) read.read.end in
+    subst (λ (i : Input). Takes command i) (once.one_meaning read.input input (subst (λ (xs : List ℕ). Means xs read.input) same read.means) means) read.taken
+
+pub is_other : (command : Command) (result : Status) (old new written written_new : Option (List ℕ)) (bytes : List ℕ) (input : Input) (source source_new : ℕ)
+    → ExactlyOne bytes → old ≡ Some bytes → length bytes ≤ document_limit → Means bytes input → ¬ Takes command input
+    → ¬ Rose source source_new
+    → (result ≡ status.Ok → IsHeadline command old new written written_new)
+    → (result ≡ status.Usage → ⊥)
+    → ((f : DocFault) → result ≡ status.Refused f → IsRefusal command old new f)
+    → (result ≡ status.ReadFault → Rose source source_new)
+    → (result ≡ status.WriteFault → IsPart command old new written written_new)
+    → (result ≡ status.Refused fault.NotYet) ⊎ (result ≡ status.OutOfMemory)
+is_other command status.Ok old new w w' bytes input s s' once told short means other read ok usage refused read_fault part =
+    absurd (other (was_taken command old new bytes (ok refl).lines input once told means (ok refl).read))
+is_other command status.Usage old new w w' bytes input s s' once told short means other read ok usage refused read_fault part = absurd (usage refl)
+is_other command (status.Refused f) old new w w' bytes input s s' once told short means other read ok usage refused read_fault part =
+    inl (ap refused_for (not_yet command bytes new input f once short means (subst (λ (o : Option (List ℕ)). IsRefusal command o new f) told (refused f refl))))
+  where
+    refused_for : DocFault → Status
+    refused_for g = status.Refused g
+is_other command status.OutOfMemory old new w w' bytes input s s' once told short means other read ok usage refused read_fault part = inr refl
+is_other command status.ReadFault old new w w' bytes input s s' once told short means other read ok usage refused read_fault part = absurd (read (read_fault refl))
+is_other command status.WriteFault old new w w' bytes input s s' once told short means other read ok usage refused read_fault part =
+    absurd (other (was_taken command old new bytes (part refl).lines input once told means (part refl).read))
+
+-- bytes with a fault
+
+the_fault : (command : Command) (bytes : List ℕ) (told : Fault) (f : DocFault) → ExactlyOne bytes → reading bytes ≡ Err told → HasFault command bytes f → Fails f (refusal told)
+the_fault command bytes told fault.NotJson once is h = sym is ∙ h
+the_fault command bytes told (fault.Field path) once is h = sym is ∙ h
+the_fault command bytes told (fault.Limit which limit) once is h = sym is ∙ h
+the_fault command bytes told (fault.Contract app text.OutOfMemory) once is h = h
+the_fault command bytes told (fault.Contract app (text.Syntax at)) once is h = sym is ∙ h
+the_fault command bytes told (fault.Contract app (text.UnknownName at)) once is h = sym is ∙ h
+the_fault command bytes told (fault.Contract app (text.Kind at)) once is h = sym is ∙ h
+the_fault command bytes told (fault.Contract app (text.Limit at)) once is h = sym is ∙ h
+the_fault command bytes told (fault.Contract app (text.Double at)) once is h = sym is ∙ h
+the_fault command bytes told (fault.Name path) once is h = sym is ∙ h
+the_fault command bytes told (fault.Double path) once is h = sym is ∙ h
+the_fault command bytes told fault.NotYet once is h = absurd (once.not_both h.input told h.means is)
+the_fault command bytes told fault.OutOfMemory once is h = absurd h
+
+refused_so : (command : Command) (bytes : List ℕ) (new : Option (List ℕ)) (told : Fault) (f : DocFault) → ExactlyOne bytes → length bytes ≤ document_limit → reading bytes ≡ Err told → IsRefusal command (Some bytes) new f → Fails f (refusal told)
+refused_so command bytes new told f once short is (inl long) = absurd (omega (arith, no_more bytes long.1.0 new long.1.1, long.1.2))
+refused_so command bytes new told f once short is (inr at) =
+    the_fault command bytes told f once is (subst (λ (xs : List ℕ). HasFault command xs f) (all_read bytes at.bytes new at.read.taken at.read.end) at.is)
+
+-- a document that is printed has no fault
+was_faultless : (command : Command) (old new : Option (List ℕ)) (bytes lines : List ℕ) (told : Fault) → ExactlyOne bytes → old ≡ Some bytes → reading bytes ≡ Err told → HasRead command old new lines → ⊥
+was_faultless command old new bytes lines told once is fault read =
+    let same : read.bytes ≡ bytes = all_read bytes read.bytes new (subst (λ (o : Option (List ℕ)). Consumes o new read.bytes) is read.read.taken) read.read.end in
+    once.not_both read.input told (subst (λ (xs : List ℕ). Means xs read.input) same read.means) fault
+
+pub is_faulty : (command : Command) (result : Status) (old new written written_new : Option (List ℕ)) (bytes : List ℕ) (told : Fault) (source source_new : ℕ)
+    → ExactlyOne bytes → old ≡ Some bytes → length bytes ≤ document_limit → reading bytes ≡ Err told
+    → ¬ Rose source source_new
+    → (result ≡ status.Ok → IsHeadline command old new written written_new)
+    → (result ≡ status.Usage → ⊥)
+    → ((f : DocFault) → result ≡ status.Refused f → IsRefusal command old new f)
+    → (result ≡ status.ReadFault → Rose source source_new)
+    → (result ≡ status.WriteFault → IsPart command old new written written_new)
+    → IsRefusedFor result told ⊎ (result ≡ status.OutOfMemory)
+is_faulty command status.Ok old new w w' bytes told s s' once is short fault read ok usage refused read_fault part =
+    absurd (was_faultless command old new bytes (ok refl).lines told once is fault (ok refl).read)
+is_faulty command status.Usage old new w w' bytes told s s' once is short fault read ok usage refused read_fault part = absurd (usage refl)
+is_faulty command (status.Refused f) old new w w' bytes told s s' once is short fault read ok usage refused read_fault part =
+    inl (refused_so command bytes new told f once short fault (subst (λ (o : Option (List ℕ)). IsRefusal command o new f) is (refused f refl)))
+is_faulty command status.OutOfMemory old new w w' bytes told s s' once is short fault read ok usage refused read_fault part = inr refl
+is_faulty command status.ReadFault old new w w' bytes told s s' once is short fault read ok usage refused read_fault part = absurd (read (read_fault refl))
+is_faulty command status.WriteFault old new w w' bytes told s s' once is short fault read ok usage refused read_fault part =
+    absurd (was_faultless command old new bytes (part refl).lines told once is fault (part refl).read)

@@ -4,4 +4,3 @@ pub mod TextLemmas
 pub mod WordLemmas
 pub mod DocumentLemmas
 pub mod Complete
-pub mod LinkLemmas

@@ -1,8 +1,19 @@
 -- The commands, and what each takes and prints.
-use Rattle.std.specs.Prelude.{◌≡◌, ℕ, List, [], ◌∷◌, codes}
-use Rattle.txn_types.specs.declared.txn.Kind.{Kind}
+use Rattle.std.specs.Prelude.{◌≡◌, ℕ, ◌*◌, List, [], ◌∷◌, ◌++◌, codes, length}
+use Rattle.std.specs.List.{All, flat_map}
 use Rattle.txn_types.specs.declared.txn.Kind.TheVariants.{Full}
-use Rattle.first_form.specs.FirstForm.{Transfers, IsRunText, IsGraphText}
+use Rattle.txn_types.specs.declared.block.Body.{Body}
+use Rattle.txn_types.specs.declared.block.Block.{Block}
+use Rattle.txn_types.specs.declared.stream.Item.{Item}
+use Rattle.txn_types.specs.declared.stream.Item.TheVariants as item
+use Rattle.txn_types.specs.declared.event.Event.TheVariants as event
+use Rattle.oxii_defs.specs.Chain.{chain}
+use Rattle.oxii_defs.specs.Lines.{blocks_line, serial_part, tail_lines}
+use Rattle.node_defs.specs.Cutting.{AreAgreed, rejected_from}
+use Rattle.node_defs.specs.Text.{rejected_line}
+use Rattle.node_defs.specs.GraphText.{IsGraphTextOf}
+use Rattle.txn_core.specs.States.{state_of}
+use Rattle.input_doc.specs.Inputs.{Input}
 use Rattle.par_top.specs.declared.command.Command.{Command}
 use Rattle.par_top.specs.declared.command.Command.TheVariants.{Run, Graph}
 
@@ -18,16 +29,50 @@ Says words command = words ≡ word_of command ∷ []
 abbrev pub IsCommand : List (List ℕ) → Type 0
 IsCommand words = (command : Command) × Says words command
 
--- so far only blocks of kind full are run
-abbrev pub TakesKind : Command → Kind → Type 0
-TakesKind Run kind = kind ≡ Full
-TakesKind Graph kind = Unit {0}
+-- WHAT A COMMAND TAKES
 
--- a document of the first form is one of the command's form
-abbrev pub Takes : Command → Transfers → Type 0
-Takes command d = TakesKind command d.kind
+-- an item is no configuration
+abbrev pub IsNoConfig : Item → Type 0
+IsNoConfig (item.Ask q) = Unit {0}
+IsNoConfig item.Mark = Unit {0}
+IsNoConfig (item.Config c) = ⊥
+
+-- so far: blocks of kind full, one orderer, one peer and one application, nobody faulty, one `all`, and no configuration
+pub record IsFirstForm (input : Input) : Type 0 where
+  pub kind : input.table.kind ≡ Full
+  pub orderers : length input.table.orderers ≡ 1
+  pub peers : length input.table.peers ≡ 1
+  pub apps : length input.table.apps ≡ 1
+  pub faulty : input.faulty ≡ []
+  pub schedule : input.schedule ≡ event.All ∷ []
+  pub configs : All IsNoConfig input.items
+
+-- a run takes the first form so far, and `graph` each document
+abbrev pub Takes : Command → Input → Type 0
+Takes Run input = IsFirstForm input
+Takes Graph input = Unit {0}
+
+-- WHAT IT PRINTS
+
+-- the rejected requests, the count of blocks, and the one peer, which completes them all: the orderer sends each block, and the peer a result for each
+abbrev pub lines_of : Input → List Block → List ℕ
+lines_of input blocks =
+    flat_map rejected_line (rejected_from input.table 0 input.items)
+    ++ blocks_line (length blocks)
+    ++ serial_part input.table (state_of input.genesis) 0 blocks
+    ++ tail_lines (2 * length blocks) 0
+
+-- what a run of a document of the first form prints: the lines over the chain of its agreed blocks
+pub record IsRunText (input : Input) (lines : List ℕ) : Type 0 where
+  pub bodies : List Body
+  pub agreed : AreAgreed input.table input.limits input.items bodies
+  pub are : lines ≡ lines_of input (chain input.table bodies)
+
+-- what `graph` prints
+abbrev pub IsGraphText : Input → List ℕ → Type 0
+IsGraphText input lines = IsGraphTextOf input.table input.items input.limits lines
 
 -- what the command prints of a document
-abbrev pub IsTextFor : Command → Transfers → List ℕ → Type 0
-IsTextFor Run d lines = IsRunText d lines
-IsTextFor Graph d lines = IsGraphText d lines
+abbrev pub IsTextFor : Command → Input → List ℕ → Type 0
+IsTextFor Run input lines = IsRunText input lines
+IsTextFor Graph input lines = IsGraphText input lines

@@ -1,25 +1,23 @@
 -- Why a command refuses a document.
-use Rattle.std.specs.Prelude.{◌≡◌, ◌⊎◌, ℕ, List, Some, None}
-use Rattle.serde_json.specs.Data.{Data}
-use Rattle.first_form.specs.FirstForm.{Transfers, HasForm, tree_of}
-use Rattle.first_form.specs.declared.fault.DocFault.{DocFault}
-use Rattle.first_form.specs.declared.fault.DocFault.TheVariants.{NotJson, Limit, NotYet, OutOfMemory}
+use Rattle.std.specs.Prelude.{◌≡◌, ◌⊎◌, ℕ, List}
+use Rattle.doc_forms.specs.declared.fault.DocFault.{DocFault}
+use Rattle.doc_forms.specs.declared.fault.DocFault.TheVariants as doc
+use Rattle.input_doc.specs.Inputs.{Input}
+use Rattle.input_doc.specs.Means.{Means, IsFaultOf}
 use Rattle.par_top.specs.declared.command.Command.{Command}
 use Rattle.par_top.specs.Commands.{Takes}
 
--- the bytes are JSON, and not of the command's form
-pub record IsOther (command : Command) (bytes : List ℕ) : Type 0 where
-  pub tree : Data
-  pub read : tree_of bytes ≡ Some tree
-  pub form : (d : Transfers) → HasForm tree d → ¬ Takes command d
+-- the bytes have a meaning, and the command doesn't take it so far
+pub record IsNotYet (command : Command) (bytes : List ℕ) : Type 0 where
+  pub input : Input
+  pub means : Means bytes input
+  pub other : ¬ Takes command input
 
 -- a whole document has this fault
 abbrev pub HasFault : Command → List ℕ → DocFault → Type 0
-HasFault command bytes NotJson = tree_of bytes ≡ None
-HasFault command bytes (Limit which limit) = ⊥
-HasFault command bytes NotYet = IsOther command bytes
-HasFault command bytes OutOfMemory = ⊥
+HasFault command bytes doc.NotYet = IsNotYet command bytes
+HasFault command bytes fault = IsFaultOf bytes fault
 
 -- a reader of the whole document answers this fault, or that memory was wanted
 abbrev pub Refuses : Command → List ℕ → DocFault → Type 0
-Refuses command bytes fault = (fault ≡ OutOfMemory) ⊎ HasFault command bytes fault
+Refuses command bytes fault = (fault ≡ doc.OutOfMemory) ⊎ HasFault command bytes fault

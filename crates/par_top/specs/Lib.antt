@@ -1,5 +1,11 @@
 pub use Rattle.oxii_defs.specs.Lines
-pub use Rattle.first_form.specs.FirstForm
+pub use Rattle.node_defs.specs.Cutting
+pub use Rattle.node_defs.specs.Text
+pub use Rattle.node_defs.specs.GraphText
+pub use Rattle.txn_core.specs.States
+pub use Rattle.input_doc.specs.Inputs
+pub use Rattle.input_doc.specs.Held
+pub use Rattle.input_doc.specs.Means
 pub mod Commands
 pub mod AgreedBlocks
 pub mod Faults

@@ -1,30 +1,39 @@
 -- What a run of the program promises.
-use Rattle.std.specs.Prelude.{◌≡◌, ℕ, List, Option}
+use Rattle.std.specs.Prelude.{◌≡◌, ◌⊎◌, ℕ, List, Option, Result, Err}
 use Rattle.std.specs.Io.KnownBytes.{Appends}
 use Rattle.par_io.specs.Reading.{ReadWhole, ReadTooMuch}
 use Rattle.par_io.specs.Writing.{AppendsFront}
-use Rattle.first_form.specs.FirstForm.{Transfers, Means}
-use Rattle.first_form.specs.declared.fault.Which.TheVariants.{Document}
-use Rattle.first_form.specs.declared.fault.DocFault.{DocFault}
-use Rattle.first_form.specs.declared.fault.DocFault.TheVariants.{NotJson, Limit, NotYet, OutOfMemory}
+use Rattle.doc_forms.specs.declared.fault.Which.TheVariants as which
+use Rattle.doc_forms.specs.declared.fault.DocFault.{DocFault}
+use Rattle.doc_forms.specs.declared.fault.DocFault.TheVariants as fault
+use Rattle.doc_forms.specs.Faults.{Fault}
+use Rattle.doc_forms.specs.Check.{Fails}
+use Rattle.input_doc.specs.Inputs.{Input}
+use Rattle.input_doc.specs.Means.{Means}
 use Rattle.par_top.specs.declared.command.Command.{Command}
+use Rattle.par_top.specs.declared.status.Status.{Status}
+use Rattle.par_top.specs.declared.status.Status.TheVariants as status
 use Rattle.par_top.specs.Commands.{Says, Takes, IsTextFor}
 use Rattle.par_top.specs.Faults.{HasFault}
+
+-- a document refused for this fault
+abbrev pub refusal : Fault → Result Input Fault
+refusal fault = Err fault
 
 -- a document has at most 4 MiB
 abbrev pub document_limit : ℕ
 document_limit = 4194304
 
--- the source was read to its end, and what it had is a document of the command's form with this text
+-- the source was read to its end, and what it had means an input that the command takes, with this text
 pub record HasRead (command : Command) (rest_old rest_new : Option (List ℕ)) (lines : List ℕ) : Type 0 where
   pub bytes : List ℕ
-  pub document : Transfers
+  pub input : Input
   pub read : ReadWhole rest_old rest_new document_limit bytes
-  pub means : Means bytes document
-  pub taken : Takes command document
-  pub text : IsTextFor command document lines
+  pub means : Means bytes input
+  pub taken : Takes command input
+  pub text : IsTextFor command input lines
 
--- the source was read to its end, what it had is a document of the command's form, and its whole text was written
+-- the same, and its whole text was written
 pub record IsHeadline (command : Command) (rest_old rest_new written_old written_new : Option (List ℕ)) : Type 0 where
   pub lines : List ℕ
   pub read : HasRead command rest_old rest_new lines
@@ -42,12 +51,18 @@ pub record IsFault (command : Command) (rest_old rest_new : Option (List ℕ)) (
   pub read : ReadWhole rest_old rest_new document_limit bytes
   pub is : HasFault command bytes fault
 
+-- the source gave more than a document has
+abbrev pub IsTooLong : Option (List ℕ) → Option (List ℕ) → DocFault → Type 0
+IsTooLong rest_old rest_new f = (f ≡ fault.Limit which.Document document_limit) × ReadTooMuch rest_old rest_new document_limit
+
 -- why a document is refused: the source gave more than the limit, or what it had has this fault
 abbrev pub IsRefusal : Command → Option (List ℕ) → Option (List ℕ) → DocFault → Type 0
-IsRefusal command rest_old rest_new (Limit which limit) = (which ≡ Document) × (limit ≡ document_limit) × ReadTooMuch rest_old rest_new document_limit
-IsRefusal command rest_old rest_new NotJson = IsFault command rest_old rest_new NotJson
-IsRefusal command rest_old rest_new NotYet = IsFault command rest_old rest_new NotYet
-IsRefusal command rest_old rest_new OutOfMemory = ⊥
+IsRefusal command rest_old rest_new f = IsTooLong rest_old rest_new f ⊎ IsFault command rest_old rest_new f
+
+-- the status refuses for this fault of a document
+abbrev pub IsRefusedFor : Status → Fault → Type 0
+IsRefusedFor (status.Refused f) fault = Fails f (refusal fault)
+IsRefusedFor _ fault = ⊥
 
 -- what is said of the command that the words are
 abbrev pub OfCommand : List (List ℕ) → (Command → Type 0) → Type 0

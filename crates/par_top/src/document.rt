@@ -1,39 +1,39 @@
 //! The document that a command takes.
 
 ghost use Rattle.std.specs.Prelude.{◌≡◌, ◌↔◌, IsTrue, MatchResult};
-ghost use Rattle.first_form.specs.FirstForm.{Means};
-ghost use Rattle.first_form.specs.Forms.{transfers_of};
-ghost use Rattle.par_top.specs.Commands.{Takes, TakesKind};
+ghost use Rattle.input_doc.specs.Inputs.{IsLawfulInput};
+ghost use Rattle.input_doc.specs.Held.{input_of};
+ghost use Rattle.input_doc.specs.Means.{Means};
+ghost use Rattle.par_top.specs.Commands.{Takes};
 ghost use Rattle.par_top.specs.Faults.{Refuses};
 
 use crate::DocFault;
 use crate::command::Command;
-use first_form::{Transfers, read_document};
+use crate::form::is_first_form;
+use input_doc::{Input, read_input};
 use std::alloc::Global;
-use txn_core::Kind;
 
-// So far only blocks of kind full are run.
-fn takes(command: Command, kind: Kind) -> bool
-    ensures { IsTrue result ↔ TakesKind command kind }
+fn takes(command: Command, input: &Input) -> bool
+    ensures { IsTrue result ↔ Takes command (input_of input.now) }
 {
-    match (command, kind) {
-        (Command::Run, Kind::Raw) => false,
-        _ => true,
+    match command {
+        Command::Run => is_first_form(input),
+        Command::Graph => true,
     }
 }
 
 /// What the bytes mean, or why the command refuses them.
-pub fn document_for(alloc: Global, command: Command, bytes: &[u8]) -> Result<Transfers, DocFault>
-    ensures { MatchResult result (λ d. Means bytes.now (transfers_of d) × Takes command (transfers_of d)) (Refuses command bytes.now) }
+#[tactic(auto, using(crate::proofs::DocumentLemmas::not_taken, crate::proofs::DocumentLemmas::refused_as_it_is))]
+pub fn document_for(alloc: Global, command: Command, bytes: &[u8]) -> Result<Input, DocFault>
+    ensures { MatchResult result (λ d. Means bytes.now (input_of d) × Takes command (input_of d) × IsLawfulInput (input_of d)) (Refuses command bytes.now) }
 {
-    match read_document(alloc, bytes) {
-        Ok(document) => {
-            if takes(command, document.kind) {
-                Ok(document)
-            } else {
-                Err(DocFault::NotYet)
-            }
-        }
-        Err(fault) => Err(fault),
+    let input = match read_input(alloc, bytes) {
+        Ok(input) => input,
+        Err(fault) => return Err(fault),
+    };
+    if takes(command, &input) {
+        Ok(input)
+    } else {
+        Err(DocFault::NotYet)
     }
 }

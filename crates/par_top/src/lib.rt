@@ -5,15 +5,16 @@ mod agreed;
 mod command;
 mod document;
 mod fold;
+mod form;
 mod gate;
 mod graphs;
+mod paths;
 mod status;
-#[cfg(test)]
-mod tests;
 mod text;
 mod top;
 
-pub use first_form::{DocFault, Which};
 pub use gate::{FreeGate, Gate};
+pub use input_doc::{DocFault, Path, Step, Which};
 pub use status::{Status, status_code, status_line};
+pub use text::graph_report;
 pub use top::run;

@@ -1,63 +1,62 @@
 //! The printed text of a document.
 
-ghost use Rattle.std.specs.Prelude.{◌≡◌, ◌≤◌, ◌++◌, length, IfOk};
-ghost use Rattle.first_form.specs.FirstForm.{IsInRange, IsRunText, IsGraphText};
-ghost use Rattle.first_form.specs.Forms.{transfers_of};
-ghost use Rattle.par_top.specs.Commands.{IsTextFor};
+ghost use Rattle.std.specs.Prelude.{◌≡◌, ◌++◌, IfOk};
+ghost use Rattle.input_doc.specs.Inputs.{IsLawfulInput};
+ghost use Rattle.input_doc.specs.Held.{input_of};
+ghost use Rattle.par_top.specs.Commands.{IsRunText, IsGraphText, IsTextFor};
 
 use crate::Gate;
 use crate::agreed::agree;
 use crate::command::Command;
 use crate::fold::push_peer;
 use crate::graphs::push_graph_text;
-use first_form::{LIMITS, Transfers, bank_table, genesis, items};
-use report_text::{push_blocks_line, push_tail};
+use input_doc::Input;
+use report_text::{push_blocks_line, push_rejects, push_tail};
 use std::alloc::Global;
-use txn_core::{OutOfMemory, Text};
+use txn_core::{Copies, OutOfMemory, Text};
 
-// The agreed blocks are run, and the peer's part is printed.
-fn run_text<G: Gate>(alloc: Global, document: &Transfers, gate: &G) -> Result<Text, OutOfMemory>
-    requires { IsInRange (transfers_of document.now) }
-    ensures { IfOk result (IsRunText (transfers_of document.now)) }
+// The agreed blocks are run, and the first peer's part is printed.
+fn run_text<G: Gate>(alloc: Global, input: &Input, gate: &G) -> Result<Text, OutOfMemory>
+    requires { IsLawfulInput (input_of input.now) }
+    ensures { IfOk result (IsRunText (input_of input.now)) }
 {
-    let table = bank_table(alloc, document.kind)?;
-    let items = items(alloc, document.amounts.as_slice())?;
-    let agreed = agree(alloc, &table, items.as_slice(), &LIMITS)?;
-    let mut values = genesis(alloc, document.a, document.b)?;
+    let table = &input.table;
+    let agreed = agree(alloc, table, input.items.as_slice(), &input.limits)?;
+    let mut values = input.genesis.copy(alloc)?;
     let blocks = agreed.blocks.as_slice();
     let count = blocks.len() as u64;
     let mut text = Text::new(alloc);
+    push_rejects(&mut text, agreed.rejected.as_slice())?;
     push_blocks_line(&mut text, count)?;
-    push_peer(alloc, &mut text, &table, 0, blocks, &mut values, gate)?;
+    push_peer(alloc, &mut text, table, 0, blocks, &mut values, gate)?;
     push_tail(&mut text, 2 * count, 0)?;
     Ok(text)
 }
 
-// The agreed blocks are printed with their graphs.
-fn graph_text(alloc: Global, document: &Transfers) -> Result<Text, OutOfMemory>
-    requires { IsInRange (transfers_of document.now) }
-    ensures { IfOk result (IsGraphText (transfers_of document.now)) }
+/// The text of the command `graph`: the rejected requests, and the agreed blocks with what each transaction depends on.
+pub fn graph_report(alloc: Global, input: &Input) -> Result<Text, OutOfMemory>
+    requires { IsLawfulInput (input_of input.now) }
+    ensures { IfOk result (IsGraphText (input_of input.now)) }
 {
-    let table = bank_table(alloc, document.kind)?;
-    let items = items(alloc, document.amounts.as_slice())?;
-    let agreed = agree(alloc, &table, items.as_slice(), &LIMITS)?;
+    let table = &input.table;
+    let agreed = agree(alloc, table, input.items.as_slice(), &input.limits)?;
     let mut text = Text::new(alloc);
-    push_graph_text(alloc, &mut text, &table, &agreed)?;
+    push_graph_text(alloc, &mut text, table, &agreed)?;
     Ok(text)
 }
 
-/// What a command prints of a document.
+/// What a command prints of a document that it takes.
 pub fn text_for<G: Gate>(
     alloc: Global,
     command: Command,
-    document: &Transfers,
+    input: &Input,
     gate: &G,
 ) -> Result<Text, OutOfMemory>
-    requires { IsInRange (transfers_of document.now) }
-    ensures { IfOk result (IsTextFor command (transfers_of document.now)) }
+    requires { IsLawfulInput (input_of input.now) }
+    ensures { IfOk result (IsTextFor command (input_of input.now)) }
 {
     match command {
-        Command::Run => run_text(alloc, document, gate),
-        Command::Graph => graph_text(alloc, document),
+        Command::Run => run_text(alloc, input, gate),
+        Command::Graph => graph_report(alloc, input),
     }
 }

@@ -2,11 +2,12 @@
 
 ghost use Rattle.std.specs.Prelude.{◌≡◌, ◌≤◌, ◌⊎◌, ◌↔◌, List, ℕ, Some, length, map, string_bytes};
 ghost use Rattle.par_io.specs.Causes.{Rose};
-ghost use Rattle.first_form.specs.FirstForm.{Means};
-ghost use Rattle.first_form.specs.FirstForm as meant;
+ghost use Rattle.input_doc.specs.Inputs.{Input};
+ghost use Rattle.doc_forms.specs.Faults.{Fault};
+ghost use Rattle.input_doc.specs.Means.{Means, HasFault};
 ghost use Rattle.par_top.specs.Commands.{Says, IsCommand, Takes};
 ghost use Rattle.par_top.specs.Statuses.{CanSay};
-ghost use Rattle.par_top.specs.Top.{OfCommand, IsHeadline, IsPart, IsRefusal, document_limit};
+ghost use Rattle.par_top.specs.Top.{OfCommand, IsHeadline, IsPart, IsRefusal, IsRefusedFor, document_limit};
 
 use crate::command::{Command, command_of};
 use crate::document::document_for;
@@ -46,12 +47,12 @@ fn run_command<S: Source, K: Sink, G: Gate>(
         }
         Err(ReadFail::OutOfMemory) => return Status::OutOfMemory,
     };
-    let document = match document_for(alloc, command, bytes.as_slice()) {
-        Ok(document) => document,
+    let input = match document_for(alloc, command, bytes.as_slice()) {
+        Ok(input) => input,
         Err(DocFault::OutOfMemory) => return Status::OutOfMemory,
         Err(fault) => return Status::Refused(fault),
     };
-    let Ok(text) = text_for(alloc, command, &document, gate) else {
+    let Ok(text) = text_for(alloc, command, &input, gate) else {
         return Status::OutOfMemory;
     };
     if write_all(sink, text.as_slice()).is_err() {
@@ -86,10 +87,18 @@ pub fn run<R: Threads + Sync, S: Source, K: Sink, G: Gate>(
     ensures part { result ≡ Status.WriteFault → OfCommand (map string_bytes words.now) (λ command. IsPart command (S.rest source.old) (S.rest source.new) (K.written sink.old) (K.written sink.new)) }
     ensures nothing { (result ≡ Status.Ok) ⊎ ((result ≡ Status.WriteFault) ⊎ (sink.new ≡ sink.old)) }
 
-    // A document of the command's form is answered, unless memory is wanted or a fault was counted.
-    ensures complete { (command : Command) (bytes : List ℕ) (d : meant.Transfers) → Says (map string_bytes words.now) command → S.rest source.old ≡ Some bytes → length bytes ≤ document_limit → Means bytes d → Takes command d
+    // A document that the command takes is answered, unless memory is wanted or a fault was counted.
+    ensures complete { (command : Command) (bytes : List ℕ) (input : Input) → Says (map string_bytes words.now) command → S.rest source.old ≡ Some bytes → length bytes ≤ document_limit → Means bytes input → Takes command input
         → ¬ Rose (S.faults source.old) (S.faults source.new) → ¬ Rose (K.faults sink.old) (K.faults sink.new)
         → (result ≡ Status.Ok) ⊎ (result ≡ Status.OutOfMemory) }
+
+    // One that has a meaning and isn't taken so far, and one that has a fault, are refused for that, unless memory is wanted or a fault was counted.
+    ensures other { (command : Command) (bytes : List ℕ) (input : Input) → Says (map string_bytes words.now) command → S.rest source.old ≡ Some bytes → length bytes ≤ document_limit → Means bytes input → ¬ Takes command input
+        → ¬ Rose (S.faults source.old) (S.faults source.new)
+        → (result ≡ Status.Refused DocFault.NotYet) ⊎ (result ≡ Status.OutOfMemory) }
+    ensures faulty { (command : Command) (bytes : List ℕ) (fault : Fault) → Says (map string_bytes words.now) command → S.rest source.old ≡ Some bytes → length bytes ≤ document_limit → HasFault bytes fault
+        → ¬ Rose (S.faults source.old) (S.faults source.new)
+        → IsRefusedFor result fault ⊎ (result ≡ Status.OutOfMemory) }
 {
     match command_of(words) {
         Some(command) => run_command(alloc, command, source, sink, gate),

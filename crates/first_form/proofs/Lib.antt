@@ -1,4 +1,0 @@
-pub mod FormLemmas
-pub mod Trees
-pub mod BankLemmas
-pub mod BankLawful
