@@ -1,6 +1,6 @@
 -- What a schedule says, key by key: no order of checks, and no faults.
 use Rattle.std.specs.Prelude.{◌≡◌, ◌≤◌, ◌<◌, ℕ, ◌+◌, Bool, true, false, List, [], ◌∷◌, codes, length, slice_get, Option, Some, None, sum_by}
-use Rattle.std.specs.List.{Contains, count_by}
+use Rattle.std.specs.List.{All, Contains, count_by}
 use Rattle.serde_json.specs.Data.{Data, null, number, unsigned, object, Members}
 use Rattle.serde_json.specs.Find.{get_member}
 use Rattle.hex.specs.Hex.{encode_lower, IsBytes}
@@ -156,3 +156,8 @@ IsKnown peers faulty (event.Deliver msg to) = to < length peers
 IsKnown peers faulty (event.SayBlock from n prev items preds) = Contains faulty from
 IsKnown peers faulty (event.SayCommit from results) = Contains faulty from
 IsKnown peers faulty event.All = Unit {0}
+
+-- a false block has at most 256 items, each of the stream and one that may stand there
+abbrev pub HasItems : List Slot → Event → Type 0
+HasItems slots (event.SayBlock from n prev items preds) = (length items ≤ 256) × All (λ i. MayStand (length items) (slice_get slots i)) items
+HasItems slots _ = Unit {0}
