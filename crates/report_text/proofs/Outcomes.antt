@@ -1,5 +1,5 @@
 -- The outcomes of a transaction, by its write set alone.
-use Rattle.std.proofs.Common.{◌≡◌, ℕ, List, [], refl}
+use Rattle.std.proofs.Common.{◌≡◌, refl}
 use Rattle.txn_types.specs.declared.txn.Txn.{Txn}
 use Rattle.txn_types.specs.declared.txn.Outcome.{Outcome}
 use Rattle.txn_types.specs.declared.txn.Outcome.TheVariants.{Commit, Abort}

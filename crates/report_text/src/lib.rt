@@ -6,6 +6,8 @@ mod lines;
 mod parts;
 mod peer;
 mod state;
+#[cfg(test)]
+mod tests;
 
 pub use graph::{push_graph_block, push_rejects};
 pub use lines::{push_blocks_line, push_entry_lines, push_number, push_peer_line, push_tail};
