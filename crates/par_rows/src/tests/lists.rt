@@ -1,0 +1,170 @@
+//! Lists at their limits: with one item more, the limit is told before any item is looked at.
+
+use super::*;
+
+// Lists with one item too many.
+#[test]
+fn overfull_lists(rt: HostRuntime) -> Result<(), Fail> {
+    let wrong = wrong_row(&rt, rt.alloc(), "graph", BASE, OVERFULL_LISTS)?;
+    assert_eq!(rt; wrong.as_str(), "");
+    Ok(())
+}
+
+const OVERFULL_LISTS: &str = "[['a',10],['b',0]] -> [<4097 times 0>] => limit records 4096
+['o1','o2'] -> [<17 times 0>] => limit orderers 16
+['p1','p2'] -> [<17 times 0>] => limit peers 16
+'apps':[ -> 'apps':[<17 times 0>],'x':[ => limit apps 16
+'agents':['p1'] -> 'agents':[<17 times 0>] => limit agents 16
+'agents':['p2'] -> 'agents':[<17 times 0>] => limit agents 16
+['c1'] -> [<65 times 0>] => limit clients 64
+['a',4] -> [<65 times -1>] => limit args 64
+'reads':['b'] -> 'reads':[<65 times 'b'>] => limit set 64
+'writes':['a'] -> 'writes':[<65 times 0>] => limit set 64
+['o2','p2'] -> [<33 times 'o2'>] => limit faulty 32
+'txns':[1] -> 'txns':[<257 times 0>] => limit txns 256
+[1]} -> [1],'preds':[[<256 times 256>]]} => accepted
+[1]} -> [1],'preds':[[<257 times 0>]]} => limit preds 256
+[1]} -> [1],'preds':[<257 times 0>]} => field schedule[2].preds
+'votes':[ -> 'votes':[<255 times 0>, => limit votes 256
+'out':[5] -> 'out':[<17 times -1>] => limit out 16";
+
+// The stream's items, requests and configurations are counted, each before its keys.
+#[test]
+fn long_streams(rt: HostRuntime) -> Result<(), Fail> {
+    let wrong = wrong_row(&rt, rt.alloc(), "graph", BASE, LONG_STREAMS)?;
+    assert_eq!(rt; wrong.as_str(), "");
+    Ok(())
+}
+
+const LONG_STREAMS: &str = "},'cut',{ -> },<8189 times 'cut'>,{ => accepted
+},'cut',{ -> },<8190 times 0>,{ => limit items 8192
+},'cut',{ -> },<4094 times {'client':'c','app':'a','op':'o','args':[],'reads':[],'writes':[]}>,{ => accepted
+},'cut',{ -> },<4095 times {'client':'c','app':'a','op':'o','args':[],'reads':[],'writes':[]}>,{ => limit transactions 4096
+},'cut',{ -> },<4094 times {'client':'c','app':'a','op':'o','args':[],'reads':[],'writes':[]}>,{},{ => field stream[4095].client
+},'cut',{ -> },<4095 times {'client':'c','app':'a','op':'o','args':[],'reads':[],'writes':[]}>,{},{ => limit transactions 4096
+},'cut',{ -> },<255 times {'config':'bank','agents':['p1'],'tau':1}>,{ => accepted
+},'cut',{ -> },<256 times {'config':'bank','agents':['p1'],'tau':1}>,{ => limit configs 256
+},'cut',{ -> },<255 times {'config':'bank','agents':['p1'],'tau':1}>,{'config':0},{ => field stream[256].config
+},'cut',{ -> },<256 times {'config':'bank','agents':['p1'],'tau':1}>,{'config':0},{ => limit configs 256";
+
+// The schedule's events, its `all` events and false messages are counted, each before its other keys.
+#[test]
+fn long_schedules(rt: HostRuntime) -> Result<(), Fail> {
+    let wrong = wrong_row(&rt, rt.alloc(), "graph", BASE, LONG_SCHEDULES)?;
+    assert_eq!(rt; wrong.as_str(), "");
+    Ok(())
+}
+
+const LONG_SCHEDULES: &str =
+    "{'do':'all'} -> <65533 times {'do':'deliver','msg':1,'to':'p1'}> => accepted
+{'do':'all'} -> <65534 times 0> => limit schedule 65536
+{'do':'all'} -> <8 times {'do':'all'}> => accepted
+{'do':'all'} -> <9 times {'do':'all'}> => limit all 8
+{'do':'all'} -> <7 times {'do':'all'}>,{'do':'all','x':1} => field schedule[8].x
+{'do':'all'} -> <8 times {'do':'all'}>,{'do':'all','x':1} => limit all 8
+{'do':'all'} -> <1022 times {'do':'commit','from':'p2','block':1,'votes':[]}> => accepted
+{'do':'all'} -> <1023 times {'do':'commit','from':'p2','block':1,'votes':[]}> => limit false 1024
+{'do':'all'} -> <1023 times {'do':'commit','from':'p2','block':1,'votes':[]}>,{'do':'block'} => field schedule[1024].from
+{'do':'all'} -> <1024 times {'do':'commit','from':'p2','block':1,'votes':[]}>,{'do':'block'} => limit false 1024
+{'do':'all'} -> <1024 times {'do':'commit','from':'p2','block':1,'votes':[]}>,{'do':'commit','x':1} => limit false 1024
+{'do':'all'} -> <1024 times {'do':'commit','from':'p2','block':1,'votes':[]}>,{'do':'comit'} => field schedule[1025].do";
+
+// Lists of as many items as they take are accepted, all in one document.
+#[test]
+fn full_lists(rt: HostRuntime) -> Result<(), Fail> {
+    let text = full_document(rt.alloc())?;
+    let line = line_of_json(&rt, rt.alloc(), text.as_str())?;
+    assert_eq!(rt; line.as_str(), "");
+    Ok(())
+}
+
+fn full_document(alloc: Global) -> Result<String, Fail> {
+    let mut text = String::from_str(alloc, BASE)?;
+    for edit in FULL_LISTS.lines() {
+        text = edited(alloc, text.as_str(), edit)?;
+    }
+    Ok(text)
+}
+
+const FULL_LISTS: &str = "['b',0] -> ['b',0],<4094 times ['r#',0]>
+['o1','o2'] -> ['o1','o2',<14 times 'o1#'>]
+'quorum':1 -> 'quorum':16
+['p1','p2'] -> ['p1','p2',<14 times 'p1#'>]
+'agents':['p1'] -> 'agents':['p2','p1',<14 times 'p1#'>]
+'tau':1 -> 'tau':16
+['c1'] -> ['c1',<63 times 'd#'>]
+r=n;}'} -> r=n;}'},<15 times {'name':'a#','agents':['p1'],'tau':1,'clients':[],'contract':'op f(){}'}>
+'reads':[] -> 'reads':[<64 times 'r#'>]
+'writes':[] -> 'writes':[<64 times 'r#'>]
+'args':[] -> 'args':[<64 times 'r#'>]
+['o2','p2'] -> ['o2','p2','o1','p1',<14 times 'o1#','p1#'>]
+'txns':[1] -> 'txns':[<256 times 1>]
+'votes':[ -> 'votes':[<254 times {'txn':256,'out':[]}>,
+'out':[5] -> 'out':[<16 times null>]";
+
+// The transactions of all false blocks are at most 16,384; the document's own list comes last.
+#[test]
+fn sums_of_transactions(rt: HostRuntime) -> Result<(), Fail> {
+    let wrong = wrong_row(&rt, rt.alloc(), "graph", BASE, SUMS_OF_TRANSACTIONS)?;
+    assert_eq!(rt; wrong.as_str(), "");
+    Ok(())
+}
+
+const SUMS_OF_TRANSACTIONS: &str =
+    "{'do':'all'} -> <129 times {'do':'block','from':'o2','number':1,'txns':[<127 times 1>]}> && 'txns':[1] -> 'txns':[1] => accepted
+{'do':'all'} -> <128 times {'do':'block','from':'o2','number':1,'txns':[<128 times 1>]}> && 'txns':[1] -> 'txns':[1] => limit false_txns 16384
+{'do':'all'} -> <129 times {'do':'block','from':'o2','number':1,'txns':[<127 times 1>]}> && 'txns':[1] -> 'txns':[0] => limit item 4
+{'do':'all'} -> <129 times {'do':'block','from':'o2','number':1,'txns':[<127 times 1>]}> && 'txns':[1] -> 'txns':[1,0] => limit false_txns 16384
+{'do':'all'} -> <128 times {'do':'block','from':'o2','number':1,'txns':[<128 times 1>]}> && 'txns':[1] -> 'txns':[0] => limit false_txns 16384
+{'do':'all'} -> <128 times {'do':'block','from':'o2','number':1,'txns':[<128 times 1>]}> && 'txns':[1] -> 'txns':[] => limit txns 256";
+
+// The votes of all false commits are at most 16,384; the document's own list of two or more comes last.
+#[test]
+fn sums_of_votes(rt: HostRuntime) -> Result<(), Fail> {
+    let wrong = wrong_row(&rt, rt.alloc(), "graph", BASE, SUMS_OF_VOTES)?;
+    assert_eq!(rt; wrong.as_str(), "");
+    Ok(())
+}
+
+const SUMS_OF_VOTES: &str =
+    "{'do':'all'} -> <180 times {'do':'commit','from':'p2','block':1,'votes':[<91 times {'txn':3,'out':[]}>]}> && [{'txn':1, -> [{'txn':1,'out':[]},{'txn':1,'out':[]},{'txn':1, => accepted
+{'do':'all'} -> <180 times {'do':'commit','from':'p2','block':1,'votes':[<91 times {'txn':3,'out':[]}>]}> && [{'txn':1, -> [0,0,{'txn':1, => field schedule[182].votes[0]
+{'do':'all'} -> <180 times {'do':'commit','from':'p2','block':1,'votes':[<91 times {'txn':3,'out':[]}>]}> && [{'txn':1, -> [0,0,0,{'txn':1, => limit false_votes 16384
+{'do':'all'} -> <181 times {'do':'commit','from':'p2','block':1,'votes':[<91 times {'txn':3,'out':[]}>]}> && [{'txn':1, -> [{'txn':1, => limit false_votes 16384
+{'do':'all'} -> <64 times {'do':'commit','from':'p2','block':1,'votes':[<256 times {'txn':3,'out':[]}>]}> && [{'txn':1, -> [{'txn':1, => limit false_votes 16384";
+
+// A contract has at most 65,536 bytes.
+#[test]
+fn long_contracts(rt: HostRuntime) -> Result<(), Fail> {
+    let text = spaced(rt.alloc(), 65507)?;
+    let line = line_of_json(&rt, rt.alloc(), text.as_str())?;
+    assert_eq!(rt; line.as_str(), "");
+    let text = spaced(rt.alloc(), 65508)?;
+    let line = line_of_json(&rt, rt.alloc(), text.as_str())?;
+    assert_eq!(rt; line.as_str(), "parblock: refused: limit contract 65536\n");
+    Ok(())
+}
+
+// The base document with so many blanks before its contract of 29 bytes.
+fn spaced(alloc: Global, blanks: usize) -> Result<String, AllocError> {
+    let new = format!(in alloc; "{}op f(r", " ".repeat(alloc, blanks)?)?;
+    replaced(alloc, BASE, "op f(r", new.as_str())
+}
+
+// A document has at most 4,194,304 bytes.
+#[test]
+fn long_documents(rt: HostRuntime) -> Result<(), Fail> {
+    let document = json(rt.alloc(), BASE)?;
+    let mut bytes = vec![in rt.alloc(); b' '; 4_194_304]?;
+    bytes.truncate(4_194_304usize.saturating_sub(document.len()));
+    bytes.extend_from_slice(document.as_bytes())?;
+    let line = line_of(&rt, rt.alloc(), bytes.as_slice())?;
+    assert_eq!(rt; line.as_str(), "");
+    bytes.push(b' ')?;
+    let line = line_of(&rt, rt.alloc(), bytes.as_slice())?;
+    assert_eq!(rt;
+        line.as_str(),
+        "parblock: refused: limit document 4194304\n"
+    );
+    Ok(())
+}
