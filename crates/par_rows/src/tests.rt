@@ -3,6 +3,7 @@
 mod apps;
 mod bytes;
 mod contracts;
+mod devices;
 mod first_faults;
 mod graphs;
 mod lists;

@@ -1,0 +1,130 @@
+//! Sources and sinks in small pieces, some of which fail, other words, and the line of each status.
+
+use super::*;
+use par_top::{DocFault, Status, Which, status_code};
+
+const TRANSFER_TEXT: &str =
+    "blocks 1\npeer p1 completed 1\nblock 1 736451c8f7eecfcc365addef3327c516f9701079c13dbfe32ef9e21eb649ed19\ntxn 1 bank transfer commit a=6 b=4\nstate 2\nvalue a 6\nvalue b 4\nmessages 2\nidle 0\n";
+
+const OVERFLOW_TEXT: &str =
+    "blocks 1\npeer p1 completed 1\nblock 1 736451c8f7eecfcc365addef3327c516f9701079c13dbfe32ef9e21eb649ed19\ntxn 1 bank transfer abort overflow\nstate 2\nvalue a 10\nvalue b 4611686018427387903\nmessages 2\nidle 0\n";
+
+const EMPTY_TEXT: &str = "blocks 0\npeer p1 completed 0\nstate 1\nvalue a 10\nmessages 0\nidle 0\n";
+
+fn words_of(alloc: Global, line: &str) -> Result<Vec<String>, AllocError> {
+    let mut words = Vec::new(alloc);
+    for word in line.split_whitespace() {
+        words.push(String::from_str(alloc, word)?)?;
+    }
+    Ok(words)
+}
+
+// What is said and written over memory in pieces of 100 and 16 bytes, which fails in the calls that are listed.
+fn in_pieces<R: Threads + Sync>(
+    rt: &R,
+    alloc: Global,
+    line: &str,
+    document: &str,
+    failing: (&[u32], &[u32]),
+) -> Result<Said, Fail> {
+    let words = words_of(alloc, line)?;
+    let mut source = MemSource::new(document.as_bytes(), 100, failing.0);
+    let mut sink = MemSink::new(alloc, 16, 20_000, failing.1)?;
+    let status = run(
+        rt,
+        alloc,
+        words.as_slice(),
+        &mut source,
+        &mut sink,
+        &FreeGate,
+    );
+    let line = status_line(alloc, &status)?;
+    Ok(Said {
+        text: text_of(alloc, sink.bytes())?,
+        line: text_of(alloc, line.as_slice())?,
+    })
+}
+
+// A document gives its text, in pieces that the source and the sink choose.
+#[test]
+fn pieces(rt: HostRuntime) -> Result<(), Fail> {
+    let alloc = rt.alloc();
+    let full = replaced(alloc, TRANSFER, "[\"b\",0]", "[\"b\",4611686018427387903]")?;
+    let empty = with_stream(alloc, "")?;
+    for (document, text) in [
+        (TRANSFER, TRANSFER_TEXT),
+        (full.as_str(), OVERFLOW_TEXT),
+        (empty.as_str(), EMPTY_TEXT),
+    ] {
+        let said = in_pieces(&rt, alloc, "run", document, (&[], &[]))?;
+        assert_eq!(rt; said.line.as_str(), "", "{document}");
+        assert_eq!(rt; said.text.as_str(), text, "{document}");
+    }
+    Ok(())
+}
+
+// A source or a sink that fails ends the run, and what was written is a part from the front.
+#[test]
+fn failing_devices(rt: HostRuntime) -> Result<(), Fail> {
+    let alloc = rt.alloc();
+    let said = in_pieces(&rt, alloc, "run", TRANSFER, (&[2], &[]))?;
+    assert_eq!(rt; said.line.as_str(), "parblock: read fault\n");
+    assert_eq!(rt; said.text.as_str(), "");
+    let said = in_pieces(&rt, alloc, "run", TRANSFER, (&[], &[3]))?;
+    assert_eq!(rt; said.line.as_str(), "parblock: write fault\n");
+    assert_eq!(rt; said.text.as_str(), "blocks 1\npeer p1 completed 1\nblo");
+    Ok(())
+}
+
+// Each other list of words is no command.
+#[test]
+fn other_words(rt: HostRuntime) -> Result<(), Fail> {
+    for line in [
+        "",
+        "Run",
+        "live",
+        "run run",
+        "run graph",
+        "graph graph",
+        "run --workers 2",
+        "run --workers 0",
+        "run --",
+        "soak --seed 1",
+    ] {
+        let said = in_pieces(&rt, rt.alloc(), line, TRANSFER, (&[], &[]))?;
+        assert_eq!(rt; said.line.as_str(), "parblock: usage\n", "{line}");
+        assert_eq!(rt; said.text.as_str(), "", "{line}");
+    }
+    Ok(())
+}
+
+// Each status has its number and its line.
+#[test]
+fn statuses(rt: HostRuntime) -> Result<(), Fail> {
+    let limit = DocFault::Limit {
+        which: Which::Document,
+        limit: 4_194_304,
+    };
+    for (status, code, line) in [
+        (Status::Ok, 0, ""),
+        (Status::Usage, 2, "parblock: usage\n"),
+        (
+            Status::Refused(limit),
+            3,
+            "parblock: refused: limit document 4194304\n",
+        ),
+        (
+            Status::Refused(DocFault::NotYet),
+            3,
+            "parblock: refused: not yet\n",
+        ),
+        (Status::OutOfMemory, 4, "parblock: out of memory\n"),
+        (Status::ReadFault, 5, "parblock: read fault\n"),
+        (Status::WriteFault, 6, "parblock: write fault\n"),
+    ] {
+        let printed = status_line(rt.alloc(), &status)?;
+        assert_eq!(rt; printed.as_slice(), line.as_bytes(), "{line}");
+        assert_eq!(rt; status_code(&status), code, "{line}");
+    }
+    Ok(())
+}
