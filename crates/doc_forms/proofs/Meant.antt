@@ -106,6 +106,10 @@ pub number_at_means : (k : List ℕ) (low high : ℕ) (w : Which) (ms : Members)
 unfolding number_at
 number_at_means k low high w ms n e = number_means low high w (get_member k ms) n (within_ok (Key k) (number_in low high w (get_member k ms)) n e)
 
+-- a number at a key is at most the greatest
+pub number_at_bound : (k : List ℕ) (low high : ℕ) (w : Which) (ms : Members) (n : ℕ) → number_at k low high w ms ≡ Ok n → n ≤ high
+number_at_bound k low high w ms n e = (number_at_means k low high w ms n e).2
+
 pub number_at_reads : (k : List ℕ) (low high : ℕ) (w : Which) (ms : Members) (n : ℕ) → HasNumber low high (get_member k ms) n → number_at k low high w ms ≡ Ok n
 unfolding number_at
 number_at_reads k low high w ms n h = rw (number_reads low high w (get_member k ms) n h) refl

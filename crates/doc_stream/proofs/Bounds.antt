@@ -3,16 +3,10 @@ use Rattle.std.proofs.Common.{◌≡◌, ◌≤◌, ℕ, List, [], length, map, 
 use Rattle.std.specs.Prelude.{codes}
 use Rattle.serde_json.specs.Data.{Members}
 use Rattle.txn_types.specs.Rising.{IsRising}
-use Rattle.doc_forms.specs.declared.fault.Which.{Which}
 use Rattle.doc_forms.specs.declared.fault.Which.TheVariants as word
-use Rattle.doc_forms.specs.Forms.{number_at, list_at}
+use Rattle.doc_forms.specs.Forms.{list_at}
 use Rattle.doc_forms.specs.Tables.{place_below, new_reference}
-use Rattle.doc_forms.proofs.Meant.{number_at_means}
 use Rattle.doc_forms.proofs.SetsMeant.{set_at_means, set_count}
-
--- a number at a key is in its range
-pub tau_bound : (k : List ℕ) (low high : ℕ) (w : Which) (ms : Members) (n : ℕ) → number_at k low high w ms ≡ Ok n → n ≤ high
-tau_bound k low high w ms n e = (number_at_means k low high w ms n e).2
 
 -- agents are at most 16, and rise
 pub agents_fit : (peers : List (List ℕ)) (ms : Members) (agents : List ℕ)

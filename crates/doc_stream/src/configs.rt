@@ -43,7 +43,7 @@ fn agents_at(
 }
 
 // At most as many as the agents, of whom there are at most 16.
-#[tactic(auto, using(crate::proofs::Bounds::tau_bound), unfolding(crate::specs::Configs::tau_at))]
+#[tactic(auto, using(doc_forms::proofs::Meant::number_at_bound), unfolding(crate::specs::Configs::tau_at))]
 fn tau_at(alloc: Global, count: usize, members: &Map<String, Value>) -> Result<u8, DocFault>
     requires { count ≤ 16 }
     ensures { Gives (λ tau. tau) result (tau_at count (members_view members.now.entries)) }

@@ -71,7 +71,7 @@ fn kind_at(alloc: Global, members: &Map<String, Value>, key: &str) -> Result<Kin
     at(alloc, key, kind(alloc, member(members, key)))
 }
 
-#[tactic(auto, using(doc_stream::proofs::Bounds::tau_bound), unfolding(crate::specs::Head::cut))]
+#[tactic(auto, using(doc_forms::proofs::Meant::number_at_bound), unfolding(crate::specs::Head::cut))]
 fn cut(alloc: Global, value: Option<&Value>) -> Result<CutLimits, DocFault>
     ensures { Gives (λ limits. limits) result (cut (seen value.entry)) }
 {
