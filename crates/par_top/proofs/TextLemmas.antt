@@ -37,24 +37,24 @@ pub lawful_blocks : (t : Table) (blocks all : List Block) → all ≡ blocks →
 lawful_blocks t blocks all same lawful = subst (All (IsLawfulBlock t)) (sym same) lawful
 
 -- the text of a run, part by part: what is agreed for the stream as a list is agreed for the document
-pub run_text_is : (input : Input) (items : List Item) (rejected refused : List Rejected) (blocks all : List Block) (count : ℕ) (values empty first second third fourth : List ℕ)
-    → items ≡ input.items → rejected ≡ rejected_from input.table 0 items → refused ≡ rejected → AreAgreedBlocks input.table input.limits items blocks → all ≡ blocks → count ≡ length all → values ≡ input.genesis
-    → empty ≡ [] → first ≡ empty ++ flat_map rejected_line refused → second ≡ first ++ blocks_line count → third ≡ second ++ serial_part input.table (state_of values) 0 all
-    → fourth ≡ third ++ tail_lines (2 * count) 0
-    → IsRunText input fourth
-run_text_is input items rejected refused blocks all count values empty first second third fourth same told said agreed listed counted start none rejects line part tail = record {
+pub run_text_is : (input : Input) (items : List Item) (rejected : List Rejected) (blocks all : List Block) (count : ℕ) (values empty first second third : List ℕ)
+    → items ≡ input.items → rejected ≡ rejected_from input.table 0 items → AreAgreedBlocks input.table input.limits items blocks → all ≡ blocks → count ≡ length all → values ≡ input.genesis
+    → empty ≡ [] → first ≡ empty ++ (flat_map rejected_line rejected ++ blocks_line count) → second ≡ first ++ serial_part input.table (state_of values) 0 all
+    → third ≡ second ++ tail_lines (2 * count) 0
+    → IsRunText input third
+run_text_is input items rejected blocks all count values empty first second third same told agreed listed counted start none front part tail = record {
   bodies = agreed.bodies;
   agreed = subst (λ (xs : List Item). AreAgreed input.table input.limits xs agreed.bodies) same agreed.agreed;
-  are = parts (flat_map rejected_line refused) (flat_map rejected_line (rejected_from input.table 0 input.items)) (blocks_line count) (serial_part input.table (state_of values) 0 all) (tail_lines (2 * count) 0)
-      none rejects line part tail (ap (flat_map rejected_line) (said ∙ told ∙ ap (rejected_from input.table 0) same))
+  are = parts (flat_map rejected_line rejected) (flat_map rejected_line (rejected_from input.table 0 input.items)) (blocks_line count) (serial_part input.table (state_of values) 0 all) (tail_lines (2 * count) 0)
+      none front part tail (ap (flat_map rejected_line) (told ∙ ap (rejected_from input.table 0) same))
       ∙ ap (λ (n : ℕ). ((flat_map rejected_line (rejected_from input.table 0 input.items) ++ blocks_line n) ++ serial_part input.table (state_of values) 0 all) ++ tail_lines (2 * n) 0) counted
       ∙ ap (λ (vs : List ℕ). ((flat_map rejected_line (rejected_from input.table 0 input.items) ++ blocks_line (length all)) ++ serial_part input.table (state_of vs) 0 all) ++ tail_lines (2 * length all) 0) start
       ∙ ap (lines_of input) (listed ∙ agreed.linked);
 }
   where
-    parts : (a b c d e : List ℕ) → empty ≡ [] → first ≡ empty ++ a → second ≡ first ++ c → third ≡ second ++ d → fourth ≡ third ++ e → a ≡ b → fourth ≡ ((b ++ c) ++ d) ++ e
-    parts a b c d e nothing one two three four is =
-        four ∙ ap (λ (text : List ℕ). text ++ e) (three ∙ ap (λ (text : List ℕ). text ++ d) (two ∙ ap (λ (text : List ℕ). text ++ c) (one ∙ ap (λ (text : List ℕ). text ++ a) nothing ∙ is)))
+    parts : (a b c d e : List ℕ) → empty ≡ [] → first ≡ empty ++ (a ++ c) → second ≡ first ++ d → third ≡ second ++ e → a ≡ b → third ≡ ((b ++ c) ++ d) ++ e
+    parts a b c d e nothing one two three is =
+        three ∙ ap (λ (text : List ℕ). text ++ e) (two ∙ ap (λ (text : List ℕ). text ++ d) (one ∙ ap (λ (text : List ℕ). text ++ (a ++ c)) nothing ∙ ap (λ (text : List ℕ). text ++ c) is))
 
 -- the text of the agreed blocks with their graphs
 pub graph_text_is : (input : Input) (items : List Item) (rejected : List Rejected) (blocks : List Block) (empty text : List ℕ)

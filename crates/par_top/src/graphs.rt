@@ -8,7 +8,7 @@ ghost use Rattle.txn_core.specs.MeantTable.{table_of};
 
 use crate::agreed::Agreed;
 use dep_graph::build;
-use report_text::{push_blocks_line, push_graph_block, push_rejects};
+use report_text::{head, push_graph_block};
 use std::alloc::Global;
 use txn_core::{Block, OutOfMemory, Table, Text};
 
@@ -39,7 +39,7 @@ pub fn push_graph_text(
     requires { All (IsLawfulBlock (table_of table.now)) agreed.now.blocks }
     ensures { OnOk result (text.new ≡ text.old ++ graph_text (table_of table.now) agreed.now.rejected agreed.now.blocks) }
 {
-    push_rejects(text, agreed.rejected.as_slice())?;
-    push_blocks_line(text, agreed.blocks.len() as u64)?;
-    push_graphs(alloc, text, table, agreed.blocks.as_slice())
+    let blocks = agreed.blocks.as_slice();
+    head(alloc, text, &agreed.rejected, blocks.len() as u64)?;
+    push_graphs(alloc, text, table, blocks)
 }

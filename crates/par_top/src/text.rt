@@ -11,7 +11,7 @@ use crate::command::Command;
 use crate::fold::push_peer;
 use crate::graphs::push_graph_text;
 use input_doc::Input;
-use report_text::{push_blocks_line, push_rejects, push_tail};
+use report_text::{head, push_tail};
 use std::alloc::Global;
 use txn_core::{Copies, OutOfMemory, Text};
 
@@ -26,8 +26,7 @@ fn run_text<G: Gate>(alloc: Global, input: &Input, gate: &G) -> Result<Text, Out
     let blocks = agreed.blocks.as_slice();
     let count = blocks.len() as u64;
     let mut text = Text::new(alloc);
-    push_rejects(&mut text, agreed.rejected.as_slice())?;
-    push_blocks_line(&mut text, count)?;
+    head(alloc, &mut text, &agreed.rejected, count)?;
     push_peer(alloc, &mut text, table, 0, blocks, &mut values, gate)?;
     push_tail(&mut text, 2 * count, 0)?;
     Ok(text)
