@@ -5,14 +5,16 @@
 //! In NEW, `<N times PIECE>` stands for so many pieces with commas between, in which # is the count before them.
 //! For the quotation marks of JSON a row writes '.
 
-use super::*;
+use crate::{Trouble, answer};
+use std::alloc::{AllocError, Global};
+use std::thread::Threads;
 
-// JSON of a text with ' for its quotation marks.
+/// JSON of a text with ' for its quotation marks.
 pub fn json(alloc: Global, text: &str) -> Result<String, AllocError> {
     text.replace(alloc, "'", "\"")
 }
 
-// The text with its first `old` replaced, or nothing where it has none.
+/// The text with its first `old` replaced, or nothing where it has none.
 pub fn replaced(alloc: Global, text: &str, old: &str, new: &str) -> Result<String, AllocError> {
     let Some((before, after)) = text.split_once(old) else {
         return Ok(String::new(alloc));
@@ -64,7 +66,7 @@ fn edited_once(alloc: Global, text: &str, edit: &str) -> Result<String, AllocErr
     replaced(alloc, text, old, whole.as_str())
 }
 
-// The text with the replacements of a row.
+/// The text with the replacements of a row.
 pub fn edited(alloc: Global, text: &str, edits: &str) -> Result<String, AllocError> {
     let mut text = String::from_str(alloc, text)?;
     for edit in edits.split(" && ") {
@@ -82,14 +84,14 @@ fn line_with(alloc: Global, fault: &str) -> Result<String, AllocError> {
     }
 }
 
-// The first row that the command answers by another line, with that line; nothing where each row is answered as it says.
+/// The first row that the command answers by another line, with that line; nothing where each row is answered as it says.
 pub fn wrong_row<R: Threads + Sync>(
     rt: &R,
     alloc: Global,
     command: &str,
     text: &str,
     rows: &str,
-) -> Result<String, Fail> {
+) -> Result<String, Trouble> {
     for row in rows.lines() {
         let Some((edits, fault)) = row.split_once(" => ") else {
             return Ok(format!(in alloc; "no row: {row}")?);

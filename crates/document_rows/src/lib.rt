@@ -1,0 +1,10 @@
+//! Rows of documents with what a command answers to them, for the tests of the top call.
+#![tactic(auto)]
+
+mod answers;
+mod rows;
+mod trouble;
+
+pub use answers::{BASE, Said, answer, text_of};
+pub use rows::{edited, json, replaced, wrong_row};
+pub use trouble::Trouble;
