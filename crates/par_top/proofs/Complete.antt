@@ -1,5 +1,5 @@
 -- A document of the form is refused by no status.
-use Rattle.std.proofs.Common.{◌≡◌, ◌≤◌, ◌⊎◌, ℕ, List, ◌++◌, length, Option, Some, None, Err, arith, refl, sym, ap, subst, ◌∙◌, inl, inr, length-append}
+use Rattle.std.proofs.Common.{◌≡◌, ◌≤◌, ◌<◌, ◌⊎◌, ℕ, List, ◌++◌, length, Option, Some, None, Err, arith, refl, sym, ap, subst, ◌∙◌, inl, inr, length-append}
 use Rattle.std.proofs.lemmas.List.{append-nil}
 use Rattle.std.specs.Io.KnownBytes.{Consumes, IsAtEnd}
 use Rattle.par_io.specs.Causes.{Rose}
@@ -16,7 +16,7 @@ use Rattle.par_top.specs.declared.status.Status.TheVariants as status
 use Rattle.par_top.specs.declared.command.Command.{Command}
 use Rattle.par_top.specs.Commands.{Takes}
 use Rattle.par_top.specs.Faults.{HasFault}
-use Rattle.par_top.specs.Top.{HasRead, IsHeadline, IsPart, IsRefusal, IsRefusedFor, refusal, document_limit}
+use Rattle.par_top.specs.Top.{HasRead, IsHeadline, IsPart, IsRefusal, IsRefusedFor, refusal, document_limit, too_long}
 
 -- what was read to the end of a source that tells its bytes is all of them
 all_read : (bytes taken : List ℕ) (new : Option (List ℕ)) → Consumes (Some bytes) new taken → IsAtEnd new → taken ≡ bytes
@@ -161,3 +161,37 @@ is_faulty command status.OutOfMemory old new w w' bytes told s s' once is short 
 is_faulty command status.ReadFault old new w w' bytes told s s' once is short fault read ok usage refused read_fault part = absurd (read (read_fault refl))
 is_faulty command status.WriteFault old new w w' bytes told s s' once is short fault read ok usage refused read_fault part =
     absurd (was_faultless command old new bytes (part refl).lines told once is fault (part refl).read)
+
+-- more bytes than a document has
+
+-- a document that is printed is no longer than the limit
+was_short : (command : Command) (old new : Option (List ℕ)) (bytes lines : List ℕ) → old ≡ Some bytes → document_limit < length bytes → HasRead command old new lines → ⊥
+was_short command old new bytes lines told long read =
+    let same : read.bytes ≡ bytes = all_read bytes read.bytes new (subst (λ (o : Option (List ℕ)). Consumes o new read.bytes) told read.read.taken) read.read.end in
+    omega (arith, read.read.short, ap length same, long)
+
+long_so : (command : Command) (bytes : List ℕ) (new : Option (List ℕ)) (f : DocFault) → document_limit < length bytes → IsRefusal command (Some bytes) new f → f ≡ too_long
+long_so command bytes new f long (inl is) = is.0
+long_so command bytes new f long (inr at) = absurd (omega (arith, at.read.short, ap length (all_read bytes at.bytes new at.read.taken at.read.end), long))
+
+pub is_long : (command : Command) (result : Status) (old new written written_new : Option (List ℕ)) (bytes : List ℕ) (source source_new : ℕ)
+    → old ≡ Some bytes → document_limit < length bytes
+    → ¬ Rose source source_new
+    → (result ≡ status.Ok → IsHeadline command old new written written_new)
+    → (result ≡ status.Usage → ⊥)
+    → ((f : DocFault) → result ≡ status.Refused f → IsRefusal command old new f)
+    → (result ≡ status.ReadFault → Rose source source_new)
+    → (result ≡ status.WriteFault → IsPart command old new written written_new)
+    → (result ≡ status.Refused too_long) ⊎ (result ≡ status.OutOfMemory)
+is_long command status.Ok old new w w' bytes s s' told long read ok usage refused read_fault part =
+    absurd (was_short command old new bytes (ok refl).lines told long (ok refl).read)
+is_long command status.Usage old new w w' bytes s s' told long read ok usage refused read_fault part = absurd (usage refl)
+is_long command (status.Refused f) old new w w' bytes s s' told long read ok usage refused read_fault part =
+    inl (ap refused_for (long_so command bytes new f long (subst (λ (o : Option (List ℕ)). IsRefusal command o new f) told (refused f refl))))
+  where
+    refused_for : DocFault → Status
+    refused_for g = status.Refused g
+is_long command status.OutOfMemory old new w w' bytes s s' told long read ok usage refused read_fault part = inr refl
+is_long command status.ReadFault old new w w' bytes s s' told long read ok usage refused read_fault part = absurd (read (read_fault refl))
+is_long command status.WriteFault old new w w' bytes s s' told long read ok usage refused read_fault part =
+    absurd (was_short command old new bytes (part refl).lines told long (part refl).read)

@@ -51,9 +51,13 @@ pub record IsFault (command : Command) (rest_old rest_new : Option (List ℕ)) (
   pub read : ReadWhole rest_old rest_new document_limit bytes
   pub is : HasFault command bytes fault
 
+-- the fault of a document with more bytes than that
+abbrev pub too_long : DocFault
+too_long = fault.Limit which.Document document_limit
+
 -- the source gave more than a document has
 abbrev pub IsTooLong : Option (List ℕ) → Option (List ℕ) → DocFault → Type 0
-IsTooLong rest_old rest_new f = (f ≡ fault.Limit which.Document document_limit) × ReadTooMuch rest_old rest_new document_limit
+IsTooLong rest_old rest_new f = (f ≡ too_long) × ReadTooMuch rest_old rest_new document_limit
 
 -- why a document is refused: the source gave more than the limit, or what it had has this fault
 abbrev pub IsRefusal : Command → Option (List ℕ) → Option (List ℕ) → DocFault → Type 0

@@ -1,13 +1,13 @@
 //! The top call.
 
-ghost use Rattle.std.specs.Prelude.{◌≡◌, ◌≤◌, ◌⊎◌, ◌↔◌, List, ℕ, Some, length, map, string_bytes};
+ghost use Rattle.std.specs.Prelude.{◌≡◌, ◌≤◌, ◌<◌, ◌⊎◌, ◌↔◌, List, ℕ, Some, length, map, string_bytes};
 ghost use Rattle.par_io.specs.Causes.{Rose};
 ghost use Rattle.input_doc.specs.Inputs.{Input};
 ghost use Rattle.doc_forms.specs.Faults.{Fault};
 ghost use Rattle.input_doc.specs.Means.{Means, HasFault};
 ghost use Rattle.par_top.specs.Commands.{Says, IsCommand, Takes};
 ghost use Rattle.par_top.specs.Statuses.{CanSay};
-ghost use Rattle.par_top.specs.Top.{OfCommand, IsHeadline, IsPart, IsRefusal, IsRefusedFor, document_limit};
+ghost use Rattle.par_top.specs.Top.{OfCommand, IsHeadline, IsPart, IsRefusal, IsRefusedFor, document_limit, too_long};
 
 use crate::command::{Command, command_of};
 use crate::document::document_for;
@@ -99,6 +99,11 @@ pub fn run<R: Threads + Sync, S: Source, K: Sink, G: Gate>(
     ensures faulty { (command : Command) (bytes : List ℕ) (fault : Fault) → Says (map string_bytes words.now) command → S.rest source.old ≡ Some bytes → length bytes ≤ document_limit → HasFault bytes fault
         → ¬ Rose (S.faults source.old) (S.faults source.new)
         → IsRefusedFor result fault ⊎ (result ≡ Status.OutOfMemory) }
+
+    // More bytes than a document has are refused for that, whatever they are.
+    ensures too_long { (command : Command) (bytes : List ℕ) → Says (map string_bytes words.now) command → S.rest source.old ≡ Some bytes → document_limit < length bytes
+        → ¬ Rose (S.faults source.old) (S.faults source.new)
+        → (result ≡ Status.Refused too_long) ⊎ (result ≡ Status.OutOfMemory) }
 {
     match command_of(words) {
         Some(command) => run_command(alloc, command, source, sink, gate),

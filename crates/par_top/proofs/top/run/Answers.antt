@@ -2,7 +2,7 @@ use Rattle.std.proofs.Common.{subst, sym}
 use Rattle.input_doc.proofs.Once.{exactly_one}
 use Rattle.par_top.specs.declared.command.Command.{Command}
 use Rattle.par_top.specs.Commands.{Takes}
-use Rattle.par_top.proofs.Complete.{is_answered, is_other, is_faulty}
+use Rattle.par_top.proofs.Complete.{is_answered, is_other, is_faulty, is_long}
 use Rattle.par_top.proofs.WordLemmas.{one_command}
 use Rattle.par_top.proofs.top.run.Goals as goal
 
@@ -21,4 +21,9 @@ returns-in-Some-clause-other g c command bytes input says told short means other
 pub returns-in-Some-clause-faulty : goal.returns-in-Some-clause-faulty
 returns-in-Some-clause-faulty g c command bytes fault says told short is read =
     is_faulty c.in-Some.command c.run_command.result _ _ _ _ bytes fault _ _ (exactly_one bytes) told short is read
+    c.run_command.ensures.ok c.run_command.ensures.not_usage c.run_command.ensures.refused c.run_command.ensures.read_fault c.run_command.ensures.part
+
+pub returns-in-Some-clause-too_long : goal.returns-in-Some-clause-too_long
+returns-in-Some-clause-too_long g c command bytes says told long read =
+    is_long c.in-Some.command c.run_command.result _ _ _ _ bytes _ _ told long read
     c.run_command.ensures.ok c.run_command.ensures.not_usage c.run_command.ensures.refused c.run_command.ensures.read_fault c.run_command.ensures.part
