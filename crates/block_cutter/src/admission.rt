@@ -5,11 +5,12 @@ ghost use Rattle.std.specs.List.{list_any};
 ghost use Rattle.oxii_defs.specs.Table.{IsLawfulTxn};
 ghost use Rattle.oxii_defs.specs.Lawful.{IsLawfulTable};
 ghost use Rattle.txn_types.specs.Rising.{IsRising};
-ghost use Rattle.node_defs.specs.Admission.{same_name, named, is_kind, are_kinds, with_sets, with_args, admit, IsLawfulRequest};
+ghost use Rattle.node_defs.specs.Admission.{same_name, first_named, is_kind, are_kinds, with_sets, with_args, admit, IsLawfulRequest};
 ghost use Rattle.txn_core.specs.Meant.{op_of, kind_of, formal_of};
 ghost use Rattle.txn_core.specs.MeantTable.{app_of, table_of};
 
-use txn_core::{App, Arg, Args, Name, Op, Param, ParamKind, Recs, Reject, Request, Table, Txn};
+use txn_core::{App, Op, Param, ParamKind, Table};
+use txn_types::{Arg, Args, Name, Recs, Reject, Request, Txn};
 
 #[tactic(auto, using(crate::proofs::Names::pointwise_same))]
 fn is_same(one: &Name, other: &Name) -> bool
@@ -21,7 +22,7 @@ fn is_same(one: &Name, other: &Name) -> bool
 // The first application with this name, and its number; the list begins with number `from`.
 fn app_from<'a>(apps: &'a [App], name: &Name, from: u8) -> Option<(u8, &'a App)>
     requires { from + length apps.now ≤ 16 }
-    ensures { option_map (λ p. (p.0, app_of p.1.now)) result ≡ named (λ app. app.name) name.now from (map app_of apps.now) }
+    ensures { option_map (λ p. (p.0, app_of p.1.now)) result ≡ first_named (λ app. app.name) name.now from (map app_of apps.now) }
 {
     let [first, rest @ ..] = apps else {
         return None;
@@ -36,7 +37,7 @@ fn app_from<'a>(apps: &'a [App], name: &Name, from: u8) -> Option<(u8, &'a App)>
 // The first operation with this name, and its number; the list begins with number `from`.
 fn op_from<'a>(ops: &'a [Op], name: &Name, from: u8) -> Option<(u8, &'a Op)>
     requires { from + length ops.now ≤ 16 }
-    ensures { option_map (λ p. (p.0, op_of p.1.now)) result ≡ named (λ op. op.name) name.now from (map op_of ops.now) }
+    ensures { option_map (λ p. (p.0, op_of p.1.now)) result ≡ first_named (λ op. op.name) name.now from (map op_of ops.now) }
 {
     let [first, rest @ ..] = ops else {
         return None;
@@ -88,18 +89,6 @@ fn args_of(args: &[Arg]) -> Args
     copied
 }
 
-fn recs_of(records: &[u16]) -> Recs
-    requires few { length records.now ≤ 16 }
-    requires rising { IsRising records.now }
-    ensures { result ≡ records.now }
-{
-    let mut copied = Recs::empty();
-    for record in records {
-        copied.add(*record);
-    }
-    copied
-}
-
 // The transaction of a request that calls an operation, where its arguments and its sets are fit.
 fn call(app: u8, number: u8, op: &Op, request: &Request) -> Result<Txn, Reject>
     requires params { length op.now.params ≤ 16 }
@@ -125,8 +114,8 @@ fn call(app: u8, number: u8, op: &Op, request: &Request) -> Result<Txn, Reject>
         app,
         op: number,
         args: args_of(args),
-        reads: recs_of(reads),
-        writes: recs_of(writes),
+        reads: Recs::of(reads),
+        writes: Recs::of(writes),
     })
 }
 

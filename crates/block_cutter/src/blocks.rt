@@ -10,7 +10,8 @@ ghost use Rattle.txn_types.specs.declared.stream.Piece.{Piece};
 use crate::open_block::OpenBlock;
 use std::alloc::Global;
 use std::mem;
-use txn_core::{Bodies, Body, Config, CutLimits, OutOfMemory, Table, Txn, Txns, bytes_len};
+use txn_core::{Table, bytes_len};
+use txn_types::{Bodies, Body, Config, CutLimits, OutOfMemory, Txn, Txns};
 
 /// The blocks that were cut so far, and the one that is open.
 #[derive(Drop)]

@@ -12,9 +12,9 @@ ghost use Rattle.block_cutter.specs.Taking.{TakesItem};
 use crate::admission::admit;
 use crate::blocks::BlockCutter;
 use std::alloc::Global;
-use txn_core::{
+use txn_core::Table;
+use txn_types::{
     Admitted, Bodies, CutLimits, Item, OutOfMemory, Piece, Reject, Rejected, Rejects, Request,
-    Table,
 };
 
 /// What a stream comes to: the bodies of its blocks, the rejected items, and for each item what it carries.

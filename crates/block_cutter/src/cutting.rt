@@ -9,7 +9,8 @@ ghost use Rattle.txn_core.specs.MeantTable.{table_of};
 
 use crate::cutter::{Cut, Cutter};
 use std::alloc::Global;
-use txn_core::{CutLimits, Item, OutOfMemory, Table};
+use txn_core::Table;
+use txn_types::{CutLimits, Item, OutOfMemory};
 
 /// Cuts a stream into blocks. A block is closed at its greatest count, before a transaction that would pass the limit of bytes,
 /// at a mark and at a configuration, which is a block by itself.

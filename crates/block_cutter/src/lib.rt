@@ -6,8 +6,6 @@ mod blocks;
 mod cutter;
 mod cutting;
 mod open_block;
-#[cfg(test)]
-mod tests;
 
 pub use admission::admit;
 pub use cutter::Cut;

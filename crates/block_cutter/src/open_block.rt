@@ -3,7 +3,7 @@
 ghost use Rattle.std.specs.Prelude.{◌≡◌, ◌≤◌, ◌+◌, ◌++◌, ◌∷◌, [], OnOk};
 
 use std::alloc::Global;
-use txn_core::{OutOfMemory, Txn, Txns};
+use txn_types::{OutOfMemory, Txn, Txns};
 
 /// The block that is open: its transactions, and their bytes together.
 #[derive(Drop)]

@@ -9,9 +9,9 @@ use Rattle.contract_grammar.specs.declared.token.Placed.{Placed}
 use Rattle.contract_grammar.specs.declared.tree.Head.{Head}
 use Rattle.contract_grammar.specs.Tree.{Tree, Op}
 use Rattle.contract_grammar.specs.Grammar.{tok, level, left_level, Spells, of_number, of_name, of_group, of_not, of_binary, of_tighter}
-use Rattle.contract_grammar.specs.Frames.{Part, left, negate, Frame, group, part, State, want, have, level_of, folded, fits, pushed, on_infix, step}
-use Rattle.contract_grammar.specs.Modes.{Purpose, Block, Use, Mode, At, at, advance, reached, begin, on_expr, on_mode, at_open, at_first, at_colon, at_block, at_stmt, at_equals, in_expr, at_else}
-use Rattle.contract_grammar.specs.Limits.{Looser, behind_open, behind_infix, behind_not, behind_becomes, behind_require, behind_if, is_chain, chain, IsChainEnd}
+use Rattle.contract_grammar.specs.Expressions.{Part, left, negate, Pending, group, part, Partial, want, have, level_of, folded, fits, pushed, on_infix, taken}
+use Rattle.contract_grammar.specs.Modes.{Purpose, Unclosed, Use, Mode, At, at, advance, reached, begin, on_expr, on_mode, at_open, at_first, at_colon, at_block, at_stmt, at_equals, in_expr, at_else}
+use Rattle.contract_grammar.specs.Limits.{Looser, behind_open, behind_infix, behind_not, behind_becomes, behind_require, behind_if, is_chain, chain_length, IsChainEnd}
 use Rattle.contract_grammar.specs.Reading.{ends_chain}
 use Rattle.contract_grammar.proofs.Expressions.{Fits, at_start, in_group, behind, fits_true, spelled}
 use Rattle.contract_grammar.proofs.Runs.{one, none, reached-append, expr_run}
@@ -53,7 +53,7 @@ data InHead : Mode → Type 0 where
 -- an operand of this level is wanted here
 record Wants (l : ℕ) (z : At) : Type 0 where
   purpose : Use
-  frames : List Frame
+  frames : List Pending
   fits : Fits l frames
   is : z.mode ≡ in_expr purpose (want frames)
 
@@ -63,61 +63,61 @@ Behind l z = InHead z.mode ⊎ Wants l z
 moved : (l : ℕ) (a a' : At) → one a ≡ one a' → Behind l a → Behind l a'
 moved l a a' h r = let is : a ≡ a' = cc in subst (λ z. Behind l z) is r
 
-wants : (l : ℕ) (u : Use) (st : List Frame) (bs : List Block) (os : List Op) (a : At) → one (at (in_expr u (want st)) bs os) ≡ one a → Fits l st → Behind l a
+wants : (l : ℕ) (u : Use) (st : List Pending) (bs : List Unclosed) (os : List Op) (a : At) → one (at (in_expr u (want st)) bs os) ≡ one a → Fits l st → Behind l a
 wants l u st bs os a h f = moved l _ a h (inr (record { purpose = u; frames = st; fits = f; is = refl }))
 
-open_behind : (l : ℕ) (m : Mode) (p : ℕ) (bs : List Block) (os : List Op) (a : At) → on_mode m p Open bs os ≡ one a → Behind l a
-unfolding step
+open_behind : (l : ℕ) (m : Mode) (p : ℕ) (bs : List Unclosed) (os : List Op) (a : At) → on_mode m p Open bs os ≡ one a → Behind l a
+unfolding taken
 open_behind l (at_open c x) p bs os a h = moved l _ a h (inl head_first)
 open_behind l (in_expr u (want st)) p bs os a h = wants l u (group p ∷ st) bs os a h in_group
 open_behind l (in_expr u (have e st)) p bs os a h = none a h
 open_behind l _ p bs os a h = none a h
 
 -- a part on the frames
-pushed_behind : (l : ℕ) (u : Use) (d : Part) (st : List Frame) (b : Bool) (bs : List Block) (os : List Op) (a : At) → level_of d < l → fits (level_of d) st ≡ b → option_map (λ z. at (in_expr u z) bs os) (pushed d st) ≡ one a → Behind l a
+pushed_behind : (l : ℕ) (u : Use) (d : Part) (st : List Pending) (b : Bool) (bs : List Unclosed) (os : List Op) (a : At) → level_of d < l → fits (level_of d) st ≡ b → option_map (λ z. at (in_expr u z) bs os) (pushed d st) ≡ one a → Behind l a
 pushed_behind l u d st true bs os a lt is h = wants l u (part d ∷ st) bs os a (rw is at h) (behind lt)
 pushed_behind l u d st false bs os a lt is h = none a (rw is at h)
 
-infix_behind : (l : ℕ) (u : Use) (op : Operator) (s : State) (bs : List Block) (os : List Op) (a : At) → level op < l → option_map (λ z. at (in_expr u z) bs os) (on_infix op s) ≡ one a → Behind l a
+infix_behind : (l : ℕ) (u : Use) (op : Operator) (s : Partial) (bs : List Unclosed) (os : List Op) (a : At) → level op < l → option_map (λ z. at (in_expr u z) bs os) (on_infix op s) ≡ one a → Behind l a
 infix_behind l u op (want st) bs os a lt h = none a h
 infix_behind l u op (have e st) bs os a lt h = pushed_behind l u (left op e) st (fits (level op) st) bs os a lt refl h
 
-operator_behind : (l : ℕ) (op : Operator) (m : Mode) (p : ℕ) (bs : List Block) (os : List Op) (a : At) → level op < l → on_mode m p (Infix op) bs os ≡ one a → Behind l a
-unfolding step
+operator_behind : (l : ℕ) (op : Operator) (m : Mode) (p : ℕ) (bs : List Unclosed) (os : List Op) (a : At) → level op < l → on_mode m p (Infix op) bs os ≡ one a → Behind l a
+unfolding taken
 operator_behind l op (in_expr u (want st)) p bs os a lt h = none a h
 operator_behind l op (in_expr u (have e st)) p bs os a lt h = infix_behind l u op (folded (left_level op) e st) bs os a lt h
 operator_behind l op _ p bs os a lt h = none a h
 
-not_behind : (l : ℕ) (m : Mode) (p : ℕ) (bs : List Block) (os : List Op) (a : At) → 2 < l → on_mode m p Not bs os ≡ one a → Behind l a
-unfolding step
+not_behind : (l : ℕ) (m : Mode) (p : ℕ) (bs : List Unclosed) (os : List Op) (a : At) → 2 < l → on_mode m p Not bs os ≡ one a → Behind l a
+unfolding taken
 not_behind l (in_expr u (want st)) p bs os a lt h = pushed_behind l u (negate p) st (fits 2 st) bs os a lt refl h
 not_behind l (in_expr u (have e st)) p bs os a lt h = none a h
 not_behind l _ p bs os a lt h = none a h
 
-becomes_behind : (l : ℕ) (m : Mode) (p : ℕ) (bs : List Block) (os : List Op) (a : At) → on_mode m p (Fixed Becomes) bs os ≡ one a → Behind l a
-unfolding step
+becomes_behind : (l : ℕ) (m : Mode) (p : ℕ) (bs : List Unclosed) (os : List Op) (a : At) → on_mode m p (Fixed Becomes) bs os ≡ one a → Behind l a
+unfolding taken
 becomes_behind l (at_equals u) p bs os a h = wants l u [] bs os a h at_start
 becomes_behind l (in_expr u (want st)) p bs os a h = none a h
 becomes_behind l (in_expr u (have e st)) p bs os a h = none a h
 becomes_behind l _ p bs os a h = none a h
 
-require_behind : (l : ℕ) (m : Mode) (p : ℕ) (bs : List Block) (os : List Op) (a : At) → on_mode m p (Fixed WordRequire) bs os ≡ one a → Behind l a
-unfolding step
+require_behind : (l : ℕ) (m : Mode) (p : ℕ) (bs : List Unclosed) (os : List Op) (a : At) → on_mode m p (Fixed WordRequire) bs os ≡ one a → Behind l a
+unfolding taken
 require_behind l at_stmt p bs os a h = wants l _ [] bs os a h at_start
 require_behind l (at_else e b) p bs os a h = wants l _ [] _ os a h at_start
 require_behind l (in_expr u (want st)) p bs os a h = none a h
 require_behind l (in_expr u (have e st)) p bs os a h = none a h
 require_behind l _ p bs os a h = none a h
 
-if_behind : (l : ℕ) (m : Mode) (p : ℕ) (bs : List Block) (os : List Op) (a : At) → on_mode m p (Fixed WordIf) bs os ≡ one a → Behind l a
-unfolding step
+if_behind : (l : ℕ) (m : Mode) (p : ℕ) (bs : List Unclosed) (os : List Op) (a : At) → on_mode m p (Fixed WordIf) bs os ≡ one a → Behind l a
+unfolding taken
 if_behind l at_stmt p bs os a h = wants l _ [] bs os a h at_start
 if_behind l (at_else e b) p bs os a h = wants l _ [] _ os a h at_start
 if_behind l (in_expr u (want st)) p bs os a h = none a h
 if_behind l (in_expr u (have e st)) p bs os a h = none a h
 if_behind l _ p bs os a h = none a h
 
-looser_behind : (l : ℕ) (m : Mode) (p : ℕ) (t : Token) (bs : List Block) (os : List Op) (a : At) → Looser l t → on_mode m p t bs os ≡ one a → Behind l a
+looser_behind : (l : ℕ) (m : Mode) (p : ℕ) (t : Token) (bs : List Unclosed) (os : List Op) (a : At) → Looser l t → on_mode m p t bs os ≡ one a → Behind l a
 looser_behind l m p _ bs os a behind_open h = open_behind l m p bs os a h
 looser_behind l m p _ bs os a (behind_infix {op = op} lt) h = operator_behind l op m p bs os a lt h
 looser_behind l m p _ bs os a (behind_not lt) h = not_behind l m p bs os a lt h
@@ -154,7 +154,7 @@ spelled_operands (of_tighter r) = spelled_operands r
 head_moved : (a a' : At) → one a ≡ one a' → InHead a.mode → InHead a'.mode
 head_moved a a' h r = let is : a ≡ a' = cc in subst (λ (z : At). InHead z.mode) is r
 
-head_stays : (m : Mode) (p : ℕ) (t : Token) (bs : List Block) (os : List Op) (a : At) → InHead m → IsOperandToken t → on_mode m p t bs os ≡ one a → InHead a.mode
+head_stays : (m : Mode) (p : ℕ) (t : Token) (bs : List Unclosed) (os : List Op) (a : At) → InHead m → IsOperandToken t → on_mode m p t bs os ≡ one a → InHead a.mode
 head_stays _ p _ bs os a head_first operand_name h = head_moved _ a h head_colon
 head_stays _ p _ bs os a head_first operand_close h = head_moved _ a h head_block
 head_stays _ p _ bs os a head_first _ h = none a h
@@ -170,21 +170,21 @@ head_run z a (k ∷ ts) i all h =
     let first = begins z a k ts h in
     head_run first.next a ts (head_stays z.mode k.span.start k.token z.blocks z.done first.next i all.0 first.step) all.1 first.rest
 
-no_infix : {A : Type 0} (m : Mode) (p : ℕ) (op : Operator) (bs : List Block) (os : List Op) (a : At) → InHead m → on_mode m p (Infix op) bs os ≡ one a → A
+no_infix : {A : Type 0} (m : Mode) (p : ℕ) (op : Operator) (bs : List Unclosed) (os : List Op) (a : At) → InHead m → on_mode m p (Infix op) bs os ≡ one a → A
 no_infix _ p op bs os a head_first h = none a h
 no_infix _ p op bs os a head_colon h = none a h
 no_infix _ p op bs os a head_block h = none a h
 
 -- ---- the end of a chain
 
-chain_here : (u : Use) (op : Operator) (e : Tree) (st : List Frame) (s : State) (p : ℕ) (bs : List Block) (os : List Op) (a : At) → is_chain op ≡ true → 32 ≤ chain (level op) e → Fits (level op) st
-    → (last : Tree) (frames : List Frame) → s ≡ have last frames → folded (level op) last frames ≡ have e st → on_expr u s p (Infix op) bs os ≡ one a → ends_chain a.mode ≡ true
-unfolding step
+chain_here : (u : Use) (op : Operator) (e : Tree) (st : List Pending) (s : Partial) (p : ℕ) (bs : List Unclosed) (os : List Op) (a : At) → is_chain op ≡ true → 32 ≤ chain_length (level op) e → Fits (level op) st
+    → (last : Tree) (frames : List Pending) → s ≡ have last frames → folded (level op) last frames ≡ have e st → on_expr u s p (Infix op) bs os ≡ one a → ends_chain a.mode ≡ true
+unfolding taken
 chain_here u op e st s p bs os a chains long f last frames is folds h =
     let stepped : on_infix op (folded (left_level op) last frames) ≡ Some (want (part (left op e) ∷ st)) = rw (chain_left op chains, folds, fits_true f) refl in
     let come : one (at (in_expr u (want (part (left op e) ∷ st))) bs os) ≡ one a = sym (ap (option_map (λ y. at (in_expr u y) bs os)) stepped) ∙ rw is at h in
     let same : at (in_expr u (want (part (left op e) ∷ st))) bs os ≡ a = cc in
-    rw (← same, chains, le-leb 32 (chain (level op) e) long) refl
+    rw (← same, chains, le-leb 32 (chain_length (level op) e) long) refl
 
 pub finds_chain : (p : List Placed) (k : Placed) (z a : At) → reached begin p ≡ one z → advance z k ≡ one a → IsChainEnd p k → ends_chain a.mode ≡ true
 unfolding advance

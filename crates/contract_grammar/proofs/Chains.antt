@@ -8,9 +8,9 @@ use Rattle.contract_grammar.specs.declared.token.Operator.TheVariants.{Or, And, 
 use Rattle.contract_grammar.specs.declared.token.Token.TheVariants.{Named, Infix, Not, Open}
 use Rattle.contract_grammar.specs.declared.token.Placed.{Placed}
 use Rattle.contract_grammar.specs.Grammar.{tok, fixed, level, left_level}
-use Rattle.contract_grammar.specs.Frames.{Frame, want, have}
-use Rattle.contract_grammar.specs.Modes.{Block, Use, Mode, At, reached, begin}
-use Rattle.contract_grammar.specs.Limits.{Looser, behind_open, behind_infix, behind_not, behind_becomes, behind_require, behind_if, is_chain, chain, IsChainEnd}
+use Rattle.contract_grammar.specs.Expressions.{Pending, want, have}
+use Rattle.contract_grammar.specs.Modes.{Unclosed, Use, Mode, At, reached, begin}
+use Rattle.contract_grammar.specs.Limits.{Looser, behind_open, behind_infix, behind_not, behind_becomes, behind_require, behind_if, is_chain, chain_length, IsChainEnd}
 use Rattle.contract_grammar.specs.Reading.{is_chain_end, ends_chain}
 use Rattle.contract_grammar.proofs.Expressions.{Fits, behind}
 use Rattle.contract_grammar.proofs.Spelled.{Holds, empty, opened, signed, denied}
@@ -47,7 +47,7 @@ ends_of_uses l (uses_assign {v = v} {u = u} {x = x} {long = long}) = record { be
 ends_of_uses l (uses_require {w = w}) = record { before = []; token = fixed w WordRequire; parts = refl; looser = behind_require }
 ends_of_uses l (uses_if {w = w}) = record { before = []; token = fixed w WordIf; parts = refl; looser = behind_if }
 
-ends_of_frames : {l : ℕ} {st : List Frame} {q own : List Placed} → Holds st q → Fits l st → EndsLooser l own → EndsLooser l (own ++ q)
+ends_of_frames : {l : ℕ} {st : List Pending} {q own : List Placed} → Holds st q → Fits l st → EndsLooser l own → EndsLooser l (own ++ q)
 ends_of_frames empty f e = rw append-nil e
 ends_of_frames {own = own} (opened {p = p} w h) f e = record { before = own ++ p; token = tok w Open; parts = sym (append_assoc own p (tok w Open ∷ [])); looser = behind_open }
 ends_of_frames {own = own} (signed {p = p} {xs = xs} w op h g s) (behind lt) e = record { before = own ++ (p ++ xs); token = tok w (Infix op); parts = simp append_assoc; looser = behind_infix lt }
@@ -77,12 +77,12 @@ both_true false b h = absurd cc
 abbrev EndsLooserAt : List Placed → Type 0
 EndsLooserAt own = (l : ℕ) → EndsLooser l own
 
-chain_of_frames : (st : List Frame) (ts : List Placed) (p q : List Placed) (k : Placed) (own : List Placed) → Holds st ts → is_chain_end (want st) ≡ true → EndsLooserAt own → p ++ k ∷ [] ≡ q ++ (own ++ ts) → IsChainEnd p k
+chain_of_frames : (st : List Pending) (ts : List Placed) (p q : List Placed) (k : Placed) (own : List Placed) → Holds st ts → is_chain_end (want st) ≡ true → EndsLooserAt own → p ++ k ∷ [] ≡ q ++ (own ++ ts) → IsChainEnd p k
 chain_of_frames _ _ p q k own empty h e is = absurd cc
 chain_of_frames _ _ p q k own (opened w r) h e is = absurd cc
 chain_of_frames _ _ p q k own (denied w r f) h e is = absurd cc
 chain_of_frames _ _ p q k own (signed {st = st} {p = ts} {xs = xs} {a = a} w op r f s) h e is =
-    let found = both_true (is_chain op) (leb 32 (chain (level op) a)) h in
+    let found = both_true (is_chain op) (leb 32 (chain_length (level op) a)) h in
     let ends = ends_of_frames r f (e (level op)) in
     let same = same_ends p (q ++ ((own ++ ts) ++ xs)) k (tok w (Infix op)) (is ∙ simp append_assoc) in
     record {
@@ -98,10 +98,10 @@ chain_of_frames _ _ p q k own (signed {st = st} {p = ts} {xs = xs} {a = a} w op 
         parts = same.lists ∙ ap (λ y. q ++ (y ++ xs)) ends.parts ∙ simp append_assoc;
         spells = rw (chain_left op found.0) at s;
       };
-      long = leb-true 32 (chain (level op) a) found.1;
+      long = leb-true 32 (chain_length (level op) a) found.1;
     }
 
-chain_of_own : {bs : List Block} {m : Mode} {own : List Placed} (p q : List Placed) (k : Placed) → Own bs m own → ends_chain m ≡ true → p ++ k ∷ [] ≡ q ++ own → IsChainEnd p k
+chain_of_own : {bs : List Unclosed} {m : Mode} {own : List Placed} (p q : List Placed) (k : Placed) → Own bs m own → ends_chain m ≡ true → p ++ k ∷ [] ≡ q ++ own → IsChainEnd p k
 chain_of_own p q k (own_expr {s = want st} {own = own} ts u r) h is = chain_of_frames st ts p q k own r h (λ l. ends_of_uses l u) is
 chain_of_own p q k (own_expr {s = have e st} ts u r) h is = absurd cc
 chain_of_own p q k _ h is = absurd cc

@@ -7,7 +7,7 @@ use Rattle.contract_grammar.specs.Grammar.{SpellsContract, Sentence, CanGoOn}
 use Rattle.contract_grammar.specs.Lexer.{tokens}
 use Rattle.contract_grammar.specs.Limits.{IsLimit, IsWithinLimits}
 use Rattle.contract_grammar.specs.Faults.{at_token, at_the_end}
-use Rattle.contract_grammar.specs.Reading.{Reading, reads, syntax_at, limit_at, reading, Means}
+use Rattle.contract_grammar.specs.Reading.{Reading, reads, syntax_at, limit_at, reading, ReadingMeans}
 use Rattle.contract_grammar.proofs.GoesOn.{one_tree}
 use Rattle.contract_grammar.proofs.Meaning.{reading_means}
 
@@ -49,7 +49,7 @@ record Stop (ts : List Placed) (r : Reading) : Type 0 where
 shorter : (p extra : List Placed) → CanGoOn (p ++ extra) → CanGoOn p
 shorter p extra g = (extra ++ g.0, (g.1.0, rw (append_assoc p extra g.0) at g.1.1))
 
-outcome : (ts : List Placed) (len : ℕ) (r : Reading) → Means ts len r → Whole ts len r ⊎ Stop ts r
+outcome : (ts : List Placed) (len : ℕ) (r : Reading) → ReadingMeans ts len r → Whole ts len r ⊎ Stop ts r
 outcome ts len (reads os) h = inl (record { within = h.1; goes_on = ([], (os, rw append-nil h.0)); answer = inl (os, refl, h.0) })
 outcome ts len (syntax_at at) (at_token p k rest parts place within goes stops) = inr (record { before = p; token = k; rest = rest; parts = parts; within = within; goes_on = goes; answer = inl (ap (λ n. syntax_at n) place, stops) })
 outcome ts len (syntax_at at) (at_the_end place within goes stops) = inl (record { within = within; goes_on = goes; answer = inr (ap (λ n. syntax_at n) place, stops) })
@@ -105,7 +105,7 @@ same_stop ts r r' a b = elim (order a.before b.before a.rest b.rest a.token b.to
 ]
 
 -- a text's tokens mean one reading
-pub one_meaning : (ts : List Placed) (len : ℕ) (r r' : Reading) → Means ts len r → Means ts len r' → r ≡ r'
+pub one_meaning : (ts : List Placed) (len : ℕ) (r r' : Reading) → ReadingMeans ts len r → ReadingMeans ts len r' → r ≡ r'
 one_meaning ts len r r' h h' = elim (outcome ts len r h) [
   | inl a ↦ elim (outcome ts len r' h') [
     | inl b ↦ same_whole ts len r r' a b
@@ -117,5 +117,5 @@ one_meaning ts len r r' h h' = elim (outcome ts len r h) [
   ]
 ]
 
-pub reading_is : (text : List ℕ) (r : Reading) → Means (tokens text) (length text) r → reading text ≡ r
+pub reading_is : (text : List ℕ) (r : Reading) → ReadingMeans (tokens text) (length text) r → reading text ≡ r
 reading_is text r h = one_meaning (tokens text) (length text) (reading text) r (reading_means text) h

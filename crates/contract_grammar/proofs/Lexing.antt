@@ -8,6 +8,7 @@ use Rattle.std.proofs.lemmas.List.Folds.{length-prefix_len}
 use Rattle.std.proofs.lemmas.Bool.Decides.{nat_tests}
 use Rattle.std.specs.Prelude.{take_while}
 use Rattle.std.proofs.lemmas.List.{length-take, take_all}
+use Rattle.txn_types.specs.Values.{max_value}
 use Rattle.txn_types.specs.Names.{BeginsLower, IsName, IsNameByte}
 use Rattle.contract_grammar.specs.declared.token.Placed.{Placed}
 use Rattle.contract_grammar.specs.declared.token.Token.{Token}
@@ -18,18 +19,18 @@ decimal_grows n [] = omega arith
 decimal_grows n (d ∷ ds) = let more = decimal_grows (10 * n + (d - 48)) ds in omega arith
 
 -- a number from 2 ^ 62 on stays there
-pub capped : (n : ℕ) (ds : List ℕ) → min (decimal (min n 4611686018427387904) ds) 4611686018427387904 ≡ min (decimal n ds) 4611686018427387904
-capped n ds = elim (cases_lt n 4611686018427387904) [
-  | inl lt ↦ let is : min n 4611686018427387904 ≡ n = omega arith in rw is refl
+pub capped : (n : ℕ) (ds : List ℕ) → min (decimal (min n (max_value + 1)) ds) (max_value + 1) ≡ min (decimal n ds) (max_value + 1)
+capped n ds = elim (cases_lt n (max_value + 1)) [
+  | inl lt ↦ let is : min n (max_value + 1) ≡ n = omega arith in rw is refl
   | inr ge ↦
-      let is : min n 4611686018427387904 ≡ 4611686018427387904 = omega arith in
+      let is : min n (max_value + 1) ≡ (max_value + 1) = omega arith in
       let one = decimal_grows n ds in
-      let two = decimal_grows 4611686018427387904 ds in
+      let two = decimal_grows (max_value + 1) ds in
       rw is (omega arith)
 ]
 
 pub number_turn : (ds : List ℕ) (i : ℕ) (n : ℕ) → i < length ds
-    → min (decimal (min (10 * n + (get_or ds i 0 - 48)) 4611686018427387904) (drop (i + 1) ds)) 4611686018427387904 ≡ min (decimal n (drop i ds)) 4611686018427387904
+    → min (decimal (min (10 * n + (get_or ds i 0 - 48)) (max_value + 1)) (drop (i + 1) ds)) (max_value + 1) ≡ min (decimal n (drop i ds)) (max_value + 1)
 number_turn ds i n lt = capped (10 * n + (get_or ds i 0 - 48)) (drop (i + 1) ds) ∙ rw (add-one, drop-cons ds i 0 lt) refl
 
 begins_taken : (n : ℕ) (bs : List ℕ) → 0 < n → BeginsLower bs → BeginsLower (take n bs)

@@ -1,4 +1,5 @@
 pub mod Lexing
+pub mod TokensMeant
 pub mod Expressions
 pub mod Spelled
 pub mod Runs

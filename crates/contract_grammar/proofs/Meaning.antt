@@ -8,7 +8,7 @@ use Rattle.contract_grammar.specs.Lexer.{tokens}
 use Rattle.contract_grammar.specs.Modes.{At, advance, reached, begin, at_end}
 use Rattle.contract_grammar.specs.Limits.{tallied, no_tally, tally, passes, IsLimit, IsWithinLimits}
 use Rattle.contract_grammar.specs.Faults.{at_token, at_the_end}
-use Rattle.contract_grammar.specs.Reading.{limit_at, ends_chain, ending, going, read_from, reading, Means}
+use Rattle.contract_grammar.specs.Reading.{limit_at, ends_chain, ending, going, read_from, reading, ReadingMeans}
 use Rattle.contract_grammar.proofs.Runs.{one, both}
 use Rattle.contract_grammar.proofs.GoesOn.{can_go_on, cannot_go_on, is_contract, no_sentence}
 use Rattle.contract_grammar.proofs.Chains.{chain_end}
@@ -49,7 +49,7 @@ reached_more p k z a h is = both begin z p (k ∷ []) h ∙ ap (option_and_then 
 tally_more : (p : List Placed) (k : Placed) → tally (p ++ k ∷ []) ≡ tallied (tally p) k
 tally_more p k = fold-append tallied no_tally p (k ∷ [])
 
-ending_means : (p : List Placed) (len : ℕ) (z : At) (o : Option (List Op)) → reached begin p ≡ one z → IsWithinLimits p → at_end z ≡ o → Means p len (ending len o)
+ending_means : (p : List Placed) (len : ℕ) (z : At) (o : Option (List Op)) → reached begin p ≡ one z → IsWithinLimits p → at_end z ≡ o → ReadingMeans p len (ending len o)
 ending_means p len z None h within is = at_the_end refl within (can_go_on p z h) (no_sentence p z h is)
 ending_means p len z (Some os) h within is = (is_contract p z os h is, within)
 
@@ -67,14 +67,14 @@ no_limit p k z a h is e (inr c) = either (passes (tally p) k) (rw (finds_chain p
     either false e = cc
 
 abbrev Again : List Placed → Placed → List Placed → ℕ → At → Type 0
-Again p k ks len a = reached begin (p ++ k ∷ []) ≡ one a → IsWithinLimits (p ++ k ∷ []) → Means ((p ++ k ∷ []) ++ ks) len (read_from a (tally (p ++ k ∷ [])) len ks)
+Again p k ks len a = reached begin (p ++ k ∷ []) ≡ one a → IsWithinLimits (p ++ k ∷ []) → ReadingMeans ((p ++ k ∷ []) ++ ks) len (read_from a (tally (p ++ k ∷ [])) len ks)
 
-means_from : (ks p : List Placed) (len : ℕ) (z : At) → reached begin p ≡ one z → IsWithinLimits p → Means (p ++ ks) len (read_from z (tally p) len ks)
+means_from : (ks p : List Placed) (len : ℕ) (z : At) → reached begin p ≡ one z → IsWithinLimits p → ReadingMeans (p ++ ks) len (read_from z (tally p) len ks)
 unfolding read_from
 means_from [] p len z h within = rw append-nil (ending_means p len z (at_end z) h within refl)
 means_from (k ∷ ks) p len z h within = by_step (advance z k) refl (λ a. means_from ks (p ++ k ∷ []) len a)
   where
-    by_limit : (a : At) → advance z k ≡ one a → Again p k ks len a → (b : Bool) → (passes (tally p) k || ends_chain a.mode) ≡ b → Means (p ++ k ∷ ks) len (cond b (limit_at k.span.start) (read_from a (tallied (tally p) k) len ks))
+    by_limit : (a : At) → advance z k ≡ one a → Again p k ks len a → (b : Bool) → (passes (tally p) k || ends_chain a.mode) ≡ b → ReadingMeans (p ++ k ∷ ks) len (cond b (limit_at k.span.start) (read_from a (tallied (tally p) k) len ks))
     by_limit a is again true e =
         let come = reached_more p k z a h is in
         record {
@@ -91,7 +91,7 @@ means_from (k ∷ ks) p len z h within = by_step (advance z k) refl (λ a. means
         let more = again (reached_more p k z a h is) (within_more p k within (no_limit p k z a h is e)) in
         rw (append_assoc p (k ∷ []) ks, tally_more p k) at more
 
-    by_step : (o : Option At) → advance z k ≡ o → ((a : At) → Again p k ks len a) → Means (p ++ k ∷ ks) len (going o k.span.start (passes (tally p) k) (λ y. read_from y (tallied (tally p) k) len ks))
+    by_step : (o : Option At) → advance z k ≡ o → ((a : At) → Again p k ks len a) → ReadingMeans (p ++ k ∷ ks) len (going o k.span.start (passes (tally p) k) (λ y. read_from y (tallied (tally p) k) len ks))
     by_step None is again = at_token p k ks refl refl within (can_go_on p z h) (cannot_go_on p k z h is)
     by_step (Some a) is again = by_limit a is (again a) (passes (tally p) k || ends_chain a.mode) refl
 
@@ -100,6 +100,6 @@ unfolding reached
 begin_here = refl
 
 -- what a text's reading means
-pub reading_means : (text : List ℕ) → Means (tokens text) (length text) (reading text)
+pub reading_means : (text : List ℕ) → ReadingMeans (tokens text) (length text) (reading text)
 unfolding reading
 reading_means text = means_from (tokens text) [] (length text) begin begin_here none_yet

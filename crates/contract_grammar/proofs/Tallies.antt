@@ -4,7 +4,7 @@ use Rattle.std.proofs.lemmas.List.Sums.{fold-append, sum_by-cons}
 use Rattle.contract_grammar.specs.declared.token.Mark.TheVariants.{WordOp, Comma}
 use Rattle.contract_grammar.specs.declared.token.Token.{Token}
 use Rattle.contract_grammar.specs.declared.token.Token.TheVariants.{Fixed}
-use Rattle.contract_grammar.specs.declared.token.Span.{Span}
+use Rattle.contract_grammar.specs.declared.token.Extent.{Extent}
 use Rattle.contract_grammar.specs.declared.token.Placed.{Placed}
 use Rattle.contract_grammar.specs.Grammar.{fixed}
 use Rattle.contract_grammar.specs.Limits.{Tally, tallied, no_tally, tally, ops_after, begun_after, commas_after}
@@ -55,7 +55,7 @@ commas_from c (k ∷ ts) h =
     let cons = commas_cons k ts in
     omega arith
 
-from_op : (ts p rest : List Placed) (w : Span) → ts ≡ p ++ fixed w WordOp ∷ rest → tally ts ≡ fold tallied (tallied (tally p) (fixed w WordOp)) rest
+from_op : (ts p rest : List Placed) (w : Extent) → ts ≡ p ++ fixed w WordOp ∷ rest → tally ts ≡ fold tallied (tallied (tally p) (fixed w WordOp)) rest
 from_op ts p rest w is = ap tally is ∙ fold-append tallied no_tally p (fixed w WordOp ∷ rest)
 
 zero_and : (n : ℕ) → 0 + n ≡ n

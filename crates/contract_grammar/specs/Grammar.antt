@@ -6,7 +6,7 @@ use Rattle.contract_grammar.specs.declared.token.Operator.{Operator}
 use Rattle.contract_grammar.specs.declared.token.Operator.TheVariants.{Or, And, Equal, NotEqual, Less, LessEqual, Greater, GreaterEqual, Plus, Minus, Times, Divide, Remainder}
 use Rattle.contract_grammar.specs.declared.token.Token.{Token}
 use Rattle.contract_grammar.specs.declared.token.Token.TheVariants.{Number, Named, Infix, Not, Open, Close, Fixed}
-use Rattle.contract_grammar.specs.declared.token.Span.{Span}
+use Rattle.contract_grammar.specs.declared.token.Extent.{Extent}
 use Rattle.contract_grammar.specs.declared.token.Placed.{Placed}
 use Rattle.contract_grammar.specs.declared.tree.ParamKind.{ParamKind}
 use Rattle.contract_grammar.specs.declared.tree.ParamKind.TheVariants as kind
@@ -15,11 +15,11 @@ use Rattle.contract_grammar.specs.declared.tree.Head.{Head}
 use Rattle.contract_grammar.specs.Tree.{Tree, number, name, negation, binary, first, begun_at, Statement, define, assign, demand, choose, again, Statements, nil, then_one, Op}
 
 -- a token in its place
-abbrev pub tok : Span → Token → Placed
+abbrev pub tok : Extent → Token → Placed
 tok w t = record { span = w; token = t }
 
 -- a word or a sign of statements and operations in its place
-abbrev pub fixed : Span → Mark → Placed
+abbrev pub fixed : Extent → Mark → Placed
 fixed w m = tok w (Fixed m)
 
 -- how tightly an operator binds: `or` 0, `and` 1, comparisons 3, sums 4, products 5; `not` has 2, and what stands alone 6
@@ -45,11 +45,11 @@ left_level op = if level op == 3 then 4 else level op
 -- expr = conj { "or" conj }   conj = neg { "and" neg }   neg = [ "not" ] cmp   cmp = sum [ ("==" | "!=" | "<" | "<=" | ">" | ">=") sum ]
 -- sum = term { ("+" | "-") term }   term = atom { ("*" | "/" | "%") atom }   atom = number | name | "(" expr ")"
 pub data Spells : ℕ → List Placed → Tree → Type 0 where
-  of_number : {w : Span} {n : ℕ} → Spells 6 (tok w (Number n) ∷ []) (number w.start n)
-  of_name : {w : Span} {x : List ℕ} {long : Bool} → Spells 6 (tok w (Named x long) ∷ []) (name w.start x)
-  of_group : {w : Span} {ts : List Placed} {e : Tree} (z : Span) → Spells 0 ts e → Spells 6 (tok w Open ∷ (ts ++ tok z Close ∷ [])) (begun_at w.start e)
-  of_not : {w : Span} {ts : List Placed} {e : Tree} → Spells 3 ts e → Spells 2 (tok w Not ∷ ts) (negation w.start e)
-  of_binary : {xs ys : List Placed} {a b : Tree} (w : Span) (op : Operator) → Spells (left_level op) xs a → Spells (suc (level op)) ys b
+  of_number : {w : Extent} {n : ℕ} → Spells 6 (tok w (Number n) ∷ []) (number w.start n)
+  of_name : {w : Extent} {x : List ℕ} {long : Bool} → Spells 6 (tok w (Named x long) ∷ []) (name w.start w.start x)
+  of_group : {w : Extent} {ts : List Placed} {e : Tree} (z : Extent) → Spells 0 ts e → Spells 6 (tok w Open ∷ (ts ++ tok z Close ∷ [])) (begun_at w.start e)
+  of_not : {w : Extent} {ts : List Placed} {e : Tree} → Spells 3 ts e → Spells 2 (tok w Not ∷ ts) (negation w.start e)
+  of_binary : {xs ys : List Placed} {a b : Tree} (w : Extent) (op : Operator) → Spells (left_level op) xs a → Spells (suc (level op)) ys b
       → Spells (level op) (xs ++ tok w (Infix op) ∷ ys) (binary (first a) op a b)
   of_tighter : {l : ℕ} {ts : List Placed} {e : Tree} → Spells (suc l) ts e → Spells l ts e
 
@@ -63,19 +63,19 @@ mutual
 
   -- a statement
   pub data SpellsStatement : List Placed → Statement → Type 0 where
-    of_let : {w v u : Span} {x : List ℕ} {long : Bool} {ts : List Placed} {e : Tree} (z : Span) → Spells 0 ts e
+    of_let : {w v u : Extent} {x : List ℕ} {long : Bool} {ts : List Placed} {e : Tree} (z : Extent) → Spells 0 ts e
         → SpellsStatement (fixed w WordLet ∷ tok v (Named x long) ∷ fixed u Becomes ∷ (ts ++ fixed z Semicolon ∷ [])) (define v.start x e)
-    of_assign : {v u : Span} {x : List ℕ} {long : Bool} {ts : List Placed} {e : Tree} (z : Span) → Spells 0 ts e
+    of_assign : {v u : Extent} {x : List ℕ} {long : Bool} {ts : List Placed} {e : Tree} (z : Extent) → Spells 0 ts e
         → SpellsStatement (tok v (Named x long) ∷ fixed u Becomes ∷ (ts ++ fixed z Semicolon ∷ [])) (assign v.start x e)
-    of_require : {w : Span} {ts : List Placed} {e : Tree} (z : Span) → Spells 0 ts e → SpellsStatement (fixed w WordRequire ∷ (ts ++ fixed z Semicolon ∷ [])) (demand e)
-    of_if : {w : Span} {ts bs : List Placed} {e : Tree} {b : Statements} → Spells 0 ts e → SpellsBlock bs b → SpellsStatement (fixed w WordIf ∷ (ts ++ bs)) (choose e b nil)
-    of_else : {w : Span} {ts bs cs : List Placed} {e : Tree} {b c : Statements} (v : Span) → Spells 0 ts e → SpellsBlock bs b → SpellsBlock cs c
+    of_require : {w : Extent} {ts : List Placed} {e : Tree} (z : Extent) → Spells 0 ts e → SpellsStatement (fixed w WordRequire ∷ (ts ++ fixed z Semicolon ∷ [])) (demand e)
+    of_if : {w : Extent} {ts bs : List Placed} {e : Tree} {b : Statements} → Spells 0 ts e → SpellsBlock bs b → SpellsStatement (fixed w WordIf ∷ (ts ++ bs)) (choose e b nil)
+    of_else : {w : Extent} {ts bs cs : List Placed} {e : Tree} {b c : Statements} (v : Extent) → Spells 0 ts e → SpellsBlock bs b → SpellsBlock cs c
         → SpellsStatement (fixed w WordIf ∷ (ts ++ (bs ++ fixed v WordElse ∷ cs))) (choose e b c)
-    of_repeat : {w v : Span} {n : ℕ} {bs : List Placed} {b : Statements} → SpellsBlock bs b → SpellsStatement (fixed w WordRepeat ∷ tok v (Number n) ∷ bs) (again n b)
+    of_repeat : {w v : Extent} {n : ℕ} {bs : List Placed} {b : Statements} → SpellsBlock bs b → SpellsStatement (fixed w WordRepeat ∷ tok v (Number n) ∷ bs) (again n b)
 
   -- a block
   pub data SpellsBlock : List Placed → Statements → Type 0 where
-    block : {w : Span} {xs : List Placed} {ss : Statements} (z : Span) → SpellsStatements xs ss → SpellsBlock (fixed w OpenBlock ∷ (xs ++ fixed z CloseBlock ∷ [])) ss
+    block : {w : Extent} {xs : List Placed} {ss : Statements} (z : Extent) → SpellsStatements xs ss → SpellsBlock (fixed w OpenBlock ∷ (xs ++ fixed z CloseBlock ∷ [])) ss
 
 -- a parameter by its byte, its name and its kind
 abbrev pub parameter : ℕ → List ℕ → ParamKind → Param
@@ -83,13 +83,13 @@ parameter at x k = record { at = at; name = x; kind = k }
 
 -- param = name ":" ( "record" | "number" )
 pub data SpellsParam : List Placed → Param → Type 0 where
-  of_record : {w v u : Span} {x : List ℕ} {long : Bool} → SpellsParam (tok w (Named x long) ∷ fixed v Colon ∷ fixed u WordRecord ∷ []) (parameter w.start x kind.Record)
-  of_amount : {w v u : Span} {x : List ℕ} {long : Bool} → SpellsParam (tok w (Named x long) ∷ fixed v Colon ∷ fixed u WordNumber ∷ []) (parameter w.start x kind.Number)
+  of_record : {w v u : Extent} {x : List ℕ} {long : Bool} → SpellsParam (tok w (Named x long) ∷ fixed v Colon ∷ fixed u WordRecord ∷ []) (parameter w.start x kind.Record)
+  of_amount : {w v u : Extent} {x : List ℕ} {long : Bool} → SpellsParam (tok w (Named x long) ∷ fixed v Colon ∷ fixed u WordNumber ∷ []) (parameter w.start x kind.Number)
 
 -- param { "," param }
 pub data SpellsParams : List Placed → List Param → Type 0 where
   one_param : {xs : List Placed} {q : Param} → SpellsParam xs q → SpellsParams xs (q ∷ [])
-  more_params : {xs ys : List Placed} {ps : List Param} {q : Param} (v : Span) → SpellsParams xs ps → SpellsParam ys q → SpellsParams (xs ++ fixed v Comma ∷ ys) (ps ++ q ∷ [])
+  more_params : {xs ys : List Placed} {ps : List Param} {q : Param} (v : Extent) → SpellsParams xs ps → SpellsParam ys q → SpellsParams (xs ++ fixed v Comma ∷ ys) (ps ++ q ∷ [])
 
 -- a head by the byte of its name, its name and its parameters
 abbrev pub head : ℕ → List ℕ → List Param → Head
@@ -97,8 +97,8 @@ head at x ps = record { at = at; name = x; params = ps }
 
 -- what stands before an operation's block: "op" name "(" [ param { "," param } ] ")"
 pub data SpellsHead : List Placed → Head → Type 0 where
-  without : {w v u z : Span} {x : List ℕ} {long : Bool} → SpellsHead (fixed w WordOp ∷ tok v (Named x long) ∷ tok u Open ∷ tok z Close ∷ []) (head v.start x [])
-  with : {w v u : Span} {x : List ℕ} {long : Bool} {xs : List Placed} {ps : List Param} (z : Span) → SpellsParams xs ps
+  without : {w v u z : Extent} {x : List ℕ} {long : Bool} → SpellsHead (fixed w WordOp ∷ tok v (Named x long) ∷ tok u Open ∷ tok z Close ∷ []) (head v.start x [])
+  with : {w v u : Extent} {x : List ℕ} {long : Bool} {xs : List Placed} {ps : List Param} (z : Extent) → SpellsParams xs ps
       → SpellsHead (fixed w WordOp ∷ tok v (Named x long) ∷ tok u Open ∷ (xs ++ tok z Close ∷ [])) (head v.start x ps)
 
 -- op = head block

@@ -1,6 +1,7 @@
 -- The tokens of a text: each as long as it can be, in its place.
 use Rattle.std.specs.Prelude.{ℕ, zero, suc, ◌+◌, ◌-◌, ◌*◌, ◌==◌, ◌&&◌, ◌||◌, Bool, false, List, [], ◌∷◌, codes, drop, length, min, nat_le, nat_lt, take, take_while, if◌then◌else◌}
 use Rattle.std.specs.Str.{bytes_eq}
+use Rattle.txn_types.specs.Values.{max_value}
 use Rattle.contract_grammar.specs.declared.token.Mark.TheVariants.{WordOp, WordLet, WordRequire, WordIf, WordElse, WordRepeat, WordRecord, WordNumber, OpenBlock, CloseBlock, Colon, Comma, Semicolon, Becomes}
 use Rattle.contract_grammar.specs.declared.token.Operator.TheVariants.{Or, And, Equal, NotEqual, Less, LessEqual, Greater, GreaterEqual, Plus, Minus, Times, Divide, Remainder}
 use Rattle.contract_grammar.specs.declared.token.Token.{Token}
@@ -39,7 +40,7 @@ is_padded digits = nat_lt 1 (length digits) && begins (λ b. b == 48) digits
 
 -- digits make a number, unless they begin with a further 0 or a name byte follows them
 unfoldable pub number_of : List ℕ → List ℕ → Token × ℕ
-number_of digits behind = if is_padded digits || begins is_name_byte behind then (Bad, 1) else (Number (min (decimal 0 digits) 4611686018427387904), length digits)
+number_of digits behind = if is_padded digits || begins is_name_byte behind then (Bad, 1) else (Number (min (decimal 0 digits) (max_value + 1)), length digits)
 
 -- the name of these bytes, of which it keeps the first 32
 abbrev pub named : List ℕ → Token
@@ -65,13 +66,13 @@ single b = if b == 40 then Open else (if b == 41 then Close else (if b == 123 th
     else (if b == 43 then Infix Plus else (if b == 45 then Infix Minus else (if b == 42 then Infix Times else (if b == 47 then Infix Divide else (if b == 37 then Infix Remainder else Bad)))))))))))
 
 -- one token with a `=` behind its first byte, another one without
-abbrev pub joined : List ℕ → Token → Token → Token × ℕ
-joined behind with_it alone = if begins (λ b. b == 61) behind then (with_it, 2) else (alone, 1)
+abbrev pub with_equals : List ℕ → Token → Token → Token × ℕ
+with_equals behind with_it alone = if begins (λ b. b == 61) behind then (with_it, 2) else (alone, 1)
 
 -- the longest sign that begins with this byte, and its length
 unfoldable pub sign_at : ℕ → List ℕ → Token × ℕ
-sign_at b behind = if b == 61 then joined behind (Infix Equal) (Fixed Becomes) else (if b == 33 then joined behind (Infix NotEqual) Bad
-    else (if b == 60 then joined behind (Infix LessEqual) (Infix Less) else (if b == 62 then joined behind (Infix GreaterEqual) (Infix Greater) else (single b, 1))))
+sign_at b behind = if b == 61 then with_equals behind (Infix Equal) (Fixed Becomes) else (if b == 33 then with_equals behind (Infix NotEqual) Bad
+    else (if b == 60 then with_equals behind (Infix LessEqual) (Infix Less) else (if b == 62 then with_equals behind (Infix GreaterEqual) (Infix Greater) else (single b, 1))))
 
 -- the longest run of digits
 abbrev pub digits_at : List ℕ → List ℕ

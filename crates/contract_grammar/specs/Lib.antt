@@ -1,7 +1,8 @@
 pub mod Lexer
+pub mod TokenLists
 pub mod Tree
 pub mod Grammar
-pub mod Frames
+pub mod Expressions
 pub mod Modes
 pub mod Limits
 pub mod Faults

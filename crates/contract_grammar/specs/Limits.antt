@@ -1,5 +1,6 @@
 -- The limits: what is counted over the tokens so far, and which token passes a limit.
 use Rattle.std.specs.Prelude.{◌≡◌, ◌⊎◌, ℕ, ◌+◌, ◌-◌, ◌*◌, ◌<◌, ◌≤◌, ◌==◌, ◌||◌, Bool, true, false, List, [], ◌∷◌, ◌++◌, length, fold, nat_le, nat_lt, if◌then◌else◌}
+use Rattle.txn_types.specs.Values.{max_value, max_turns}
 use Rattle.contract_grammar.specs.declared.token.Mark.TheVariants.{WordOp, WordLet, WordRequire, WordIf, WordRepeat, OpenBlock, CloseBlock, Comma, Becomes}
 use Rattle.contract_grammar.specs.declared.token.Operator.{Operator}
 use Rattle.contract_grammar.specs.declared.token.Token.{Token}
@@ -113,7 +114,7 @@ tally ts = fold tallied no_tally ts
 
 -- a number above 2^62 - 1
 abbrev pub is_large : Token → Bool
-is_large (Number n) = nat_lt 4611686018427387903 n
+is_large (Number n) = nat_lt max_value n
 is_large _ = false
 
 -- a name longer than 32 bytes
@@ -123,7 +124,7 @@ is_long_name _ = false
 
 -- a repeat count outside 1 to 64, or whose product with the enclosing counts is above 1,024
 abbrev pub is_bad_count : Previous → List Scope → Token → Bool
-is_bad_count repeat_word scopes (Number n) = nat_lt n 1 || (nat_lt 64 n || nat_lt 1024 (n * product_in scopes))
+is_bad_count repeat_word scopes (Number n) = nat_lt n 1 || (nat_lt 64 n || nat_lt max_turns (n * product_in scopes))
 is_bad_count _ scopes _ = false
 
 -- the `(` that is the 33rd open one, and the `{` that is the 33rd open one
@@ -175,11 +176,11 @@ abbrev pub is_chain : Operator → Bool
 is_chain op = if level op == 3 then false else true
 
 -- how many operators of a level a chain has, from its last one to the left, through parentheses
-abbrev pub chain : ℕ → Tree → ℕ
-chain l (number at n) = 0
-chain l (name at x) = 0
-chain l (negation at e) = 0
-chain l (binary at op a b) = if level op == l then chain l a + 1 else 0
+abbrev pub chain_length : ℕ → Tree → ℕ
+chain_length l (number at n) = 0
+chain_length l (name at own x) = 0
+chain_length l (negation at e) = 0
+chain_length l (binary at op a b) = if level op == l then chain_length l a + 1 else 0
 
 -- the token is the 33rd operator of its chain
 pub record IsChainEnd (p : List Placed) (k : Placed) : Type 0 where
@@ -188,7 +189,7 @@ pub record IsChainEnd (p : List Placed) (k : Placed) : Type 0 where
   pub chains : is_chain operator ≡ true
   pub operand : Tree
   pub stands : LastOperand p (level operator) operand
-  pub long : 32 ≤ chain (level operator) operand
+  pub long : 32 ≤ chain_length (level operator) operand
 
 -- the token passes a limit, behind these tokens
 abbrev pub IsLimit : List Placed → Placed → Type 0

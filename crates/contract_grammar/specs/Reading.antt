@@ -4,9 +4,9 @@ use Rattle.contract_grammar.specs.declared.token.Placed.{Placed}
 use Rattle.contract_grammar.specs.Tree.{Op}
 use Rattle.contract_grammar.specs.Lexer.{tokens}
 use Rattle.contract_grammar.specs.Grammar.{level, SpellsContract}
-use Rattle.contract_grammar.specs.Frames.{left, part, State, want}
+use Rattle.contract_grammar.specs.Expressions.{left, part, Partial, want}
 use Rattle.contract_grammar.specs.Modes.{Mode, in_expr, At, advance, begin, at_end}
-use Rattle.contract_grammar.specs.Limits.{is_chain, chain, Tally, no_tally, tallied, passes, IsWithinLimits}
+use Rattle.contract_grammar.specs.Limits.{is_chain, chain_length, Tally, no_tally, tallied, passes, IsWithinLimits}
 use Rattle.contract_grammar.specs.Faults.{IsSyntaxFault, IsLimitFault}
 
 -- the operations, or the first fault with its byte
@@ -16,8 +16,8 @@ pub data Reading : Type 0 where
   limit_at : ℕ → Reading
 
 -- the operator that was just read is the 33rd of its chain
-abbrev pub is_chain_end : State → Bool
-is_chain_end (want (part (left op e) ∷ st)) = is_chain op && nat_le 32 (chain (level op) e)
+abbrev pub is_chain_end : Partial → Bool
+is_chain_end (want (part (left op e) ∷ st)) = is_chain op && nat_le 32 (chain_length (level op) e)
 is_chain_end _ = false
 
 -- the same in every mode
@@ -45,7 +45,7 @@ unfoldable pub reading : List ℕ → Reading
 reading text = read_from begin no_tally (length text) (tokens text)
 
 -- what a reading means
-abbrev pub Means : List Placed → ℕ → Reading → Type 0
-Means ts len (reads os) = SpellsContract ts os × IsWithinLimits ts
-Means ts len (syntax_at at) = IsSyntaxFault ts len at
-Means ts len (limit_at at) = IsLimitFault ts at
+abbrev pub ReadingMeans : List Placed → ℕ → Reading → Type 0
+ReadingMeans ts len (reads os) = SpellsContract ts os × IsWithinLimits ts
+ReadingMeans ts len (syntax_at at) = IsSyntaxFault ts len at
+ReadingMeans ts len (limit_at at) = IsLimitFault ts at

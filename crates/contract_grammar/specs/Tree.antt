@@ -10,10 +10,10 @@ use Rattle.contract_grammar.specs.declared.tree.Stmt.TheVariants as stmt
 use Rattle.contract_grammar.specs.declared.tree.Stmts.{Stmts}
 use Rattle.contract_grammar.specs.declared.tree.Stmts.TheVariants as stmts
 
--- an expression, with the byte of its first token
+-- an expression, with the byte of its first token; a name has its own byte too, which is another one in parentheses
 pub data Tree : Type 0 where
   number : (at value : ℕ) → Tree
-  name : (at : ℕ) → List ℕ → Tree
+  name : (at own : ℕ) → List ℕ → Tree
   negation : (at : ℕ) → Tree → Tree
   binary : (at : ℕ) → Operator → Tree → Tree → Tree
 
@@ -39,21 +39,21 @@ pub record Op : Type 0 where
 -- the byte of an expression's first token
 abbrev pub first : Tree → ℕ
 first (number at n) = at
-first (name at x) = at
+first (name at own x) = at
 first (negation at e) = at
 first (binary at op a b) = at
 
--- the same expression behind a parenthesis
+-- the same expression behind a parenthesis: a name keeps its own byte
 abbrev pub begun_at : ℕ → Tree → Tree
 begun_at p (number at n) = number p n
-begun_at p (name at x) = name p x
+begun_at p (name at own x) = name p own x
 begun_at p (negation at e) = negation p e
 begun_at p (binary at op a b) = binary p op a b
 
 -- the plain form of an expression
 abbrev pub tree : Expr → Tree
 tree (expr.Number at n) = number at n
-tree (expr.Named at x) = name at x
+tree (expr.Named at own x) = name at own x
 tree (expr.Not' at p e) = negation at (tree e)
 tree (expr.Binary' at op p a q b) = binary at op (tree a) (tree b)
 

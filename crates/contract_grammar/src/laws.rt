@@ -1,4 +1,9 @@
-ghost use Rattle.contract_grammar.specs.Laws.{SentencesHaveOneTree, ReadingsAreMeant, ReadingsAreDetermined, TalliesCount};
+ghost use Rattle.contract_grammar.specs.Laws.{TokensAreMeant, SentencesHaveOneTree, ReadingsAreMeant, ReadingsAreDetermined, TalliesCount};
+
+/// The tokens of a text lie behind one another in it, with spaces between them, and each is as long as it can be.
+pub fn tokens_are_meant()
+    ensures law { TokensAreMeant }
+{}
 
 /// A sentence has one tree.
 pub fn sentences_have_one_tree()

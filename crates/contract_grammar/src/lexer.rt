@@ -1,11 +1,12 @@
-ghost use Rattle.std.specs.Prelude.{◌≡◌, ◌<◌, ◌≤◌, ◌^◌, ◌+◌, [], ◌∷◌, IfOk, IsTrue, drop, length, min, take};
+ghost use Rattle.std.specs.Prelude.{◌≡◌, ◌<◌, ◌≤◌, ◌+◌, [], ◌∷◌, IfOk, IsTrue, drop, length, min, take};
 ghost use Rattle.std.specs.List.{All};
 ghost use Rattle.txn_types.specs.Names.{BeginsLower, IsNameByte};
-ghost use Rattle.contract_grammar.specs.Lexer.{is_space, is_letter, is_digit, is_name_byte, decimal, begins, is_padded, number_of, named, word_in_expression, word_in_block, word_of, single, joined, sign_at, digits_at, name_at, token_at, placed, tokens};
+ghost use Rattle.txn_types.specs.Values.{max_value};
+ghost use Rattle.contract_grammar.specs.Lexer.{is_space, is_letter, is_digit, is_name_byte, decimal, begins, is_padded, number_of, named, word_in_expression, word_in_block, word_of, single, with_equals, sign_at, digits_at, name_at, token_at, placed, tokens};
 
-use crate::token::{Mark, Operator, Placed, Span, Token};
+use crate::token::{Extent, Mark, Operator, Placed, Token};
 use std::alloc::{AllocError, Global};
-use txn_types::{GrowingList, Name, OutOfMemory};
+use txn_types::{GrowingList, MAX, Name, OutOfMemory};
 
 fn is_space(b: u8) -> bool
     ensures { result ≡ is_space b }
@@ -33,12 +34,12 @@ fn is_name_byte(b: u8) -> bool
 
 /// The number of the digits, or 2^62 for a larger one.
 fn value(digits: &[u8]) -> u64
-    ensures { result ≡ min (decimal 0 digits.now) (2 ^ 62) }
+    ensures { result ≡ min (decimal 0 digits.now) (max_value + 1) }
 {
     let mut value = 0u64;
     for digit in digits {
         let more = u64::from(digit.saturating_sub(b'0'));
-        value = value.saturating_mul(10).saturating_add(more).min(1 << 62);
+        value = value.saturating_mul(10).saturating_add(more).min(MAX + 1);
     }
     value
 }
@@ -169,8 +170,8 @@ fn single(b: u8) -> Token
 }
 
 /// One token with a `=` behind its first byte, another one without.
-fn joined(behind: &[u8], with_it: Token, alone: Token) -> (Token, usize)
-    ensures value { result ≡ joined behind.now with_it alone }
+fn with_equals(behind: &[u8], with_it: Token, alone: Token) -> (Token, usize)
+    ensures value { result ≡ with_equals behind.now with_it alone }
     ensures some { 0 < result.1 }
     ensures bound { result.1 ≤ length behind.now + 1 }
 {
@@ -188,18 +189,18 @@ fn sign_at(b: u8, behind: &[u8]) -> (Token, usize)
     ensures bound { result.1 ≤ length behind.now + 1 }
 {
     match b {
-        b'=' => joined(
+        b'=' => with_equals(
             behind,
             Token::Infix(Operator::Equal),
             Token::Fixed(Mark::Becomes),
         ),
-        b'!' => joined(behind, Token::Infix(Operator::NotEqual), Token::Bad),
-        b'<' => joined(
+        b'!' => with_equals(behind, Token::Infix(Operator::NotEqual), Token::Bad),
+        b'<' => with_equals(
             behind,
             Token::Infix(Operator::LessEqual),
             Token::Infix(Operator::Less),
         ),
-        b'>' => joined(
+        b'>' => with_equals(
             behind,
             Token::Infix(Operator::GreaterEqual),
             Token::Infix(Operator::Greater),
@@ -270,7 +271,7 @@ pub fn tokens(alloc: Global, text: &[u8]) -> Result<GrowingList<Placed>, OutOfMe
             skip -= 1;
         } else if !is_space(*b) {
             let (token, len) = token_at(&text[i..]);
-            let span = Span {
+            let span = Extent {
                 start: i as u32,
                 end: (i + len) as u32,
             };

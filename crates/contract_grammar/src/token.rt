@@ -55,7 +55,7 @@ pub enum Token {
 
 /// Where a token stands: its first byte, and the byte behind it, from 0.
 #[derive(Clone, Copy, Debug, PartialEq, Eq)]
-pub struct Span {
+pub struct Extent {
     pub start: u32,
     pub end: u32,
 }
@@ -63,6 +63,6 @@ pub struct Span {
 /// A token in its place.
 #[derive(Drop)]
 pub struct Placed {
-    pub span: Span,
+    pub span: Extent,
     pub token: Token,
 }

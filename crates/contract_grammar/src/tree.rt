@@ -1,11 +1,11 @@
 use crate::token::Operator;
 use txn_types::{GrowingList, Name};
 
-/// An expression, with the byte of its first token.
+/// An expression, with the byte of its first token; a name in parentheses has its own byte too.
 #[derive(Drop)]
 pub enum Expr {
     Number(u32, u64),
-    Named(u32, Name),
+    Named { at: u32, own: u32, name: Name },
     Not(u32, Box<Expr>),
     Binary(u32, Operator, Box<Expr>, Box<Expr>),
 }

@@ -9,7 +9,7 @@ use Rattle.contract_printer.specs.Printed.{grouped, printed, braced, printed_stm
 
 abbrev pub bare : Tree → Tree
 bare (number at n) = number 0 n
-bare (name at x) = name 0 x
+bare (name at own x) = name 0 0 x
 bare (negation at e) = negation 0 (bare e)
 bare (binary at op a b) = binary 0 op (bare a) (bare b)
 
@@ -35,7 +35,7 @@ bare_op o = record { head = head 0 o.head.name (map bare_param o.head.params); b
 
 pub printed_bare : (l : ℕ) (e : Tree) → printed l (bare e) ≡ printed l e
 printed_bare l (number at n) = refl
-printed_bare l (name at x) = refl
+printed_bare l (name at own x) = refl
 printed_bare l (negation at e) = ap (λ ts. grouped (nat_lt 2 l) (Not ∷ ts)) (printed_bare 3 e)
 printed_bare l (binary at op a b) =
     let left = printed_bare (left_level op) a in

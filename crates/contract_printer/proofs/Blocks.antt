@@ -5,19 +5,19 @@ use Rattle.contract_grammar.specs.declared.token.Token.TheVariants.{Fixed}
 use Rattle.oxii_defs.specs.Syntax.{Formal}
 use Rattle.txn_core.specs.declared.syntax.Stmt.{Stmt}
 use Rattle.txn_core.specs.Meant.{stmt_of, stmts_of}
-use Rattle.contract_printer.specs.declared.sheet.Sheet.{Sheet}
+use Rattle.contract_printer.specs.declared.spaced_text.SpacedText.{SpacedText}
 use Rattle.contract_printer.specs.Plain.{visible_after, plain_stmt, plain_all}
 use Rattle.contract_printer.specs.Printed.{braced, printed_stmt, printed_all, printed_else}
-use Rattle.contract_printer.specs.Sheets.{put_all}
+use Rattle.contract_printer.specs.SpacedTexts.{put_all}
 use Rattle.contract_printer.proofs.Forms.{printed_ahead, else_ahead}
 
 module _ (params : List Formal) (locals : List (List ℕ)) where
-  pub none_written : (s : Sheet) (xs : List Stmt) → length xs < 1 → s ≡ put_all s (printed_all (plain_all params locals (stmts_of xs)))
+  pub none_written : (s : SpacedText) (xs : List Stmt) → length xs < 1 → s ≡ put_all s (printed_all (plain_all params locals (stmts_of xs)))
   unfolding plain_stmt
   none_written s [] lt = refl
   none_written s (x ∷ xs) lt = absurd (omega (arith, lt))
 
-  pub none_else : (s : Sheet) (xs : List Stmt) → length xs < 1 → s ≡ put_all s (printed_else (plain_all params locals (stmts_of xs)))
+  pub none_else : (s : SpacedText) (xs : List Stmt) → length xs < 1 → s ≡ put_all s (printed_else (plain_all params locals (stmts_of xs)))
   unfolding plain_stmt
   none_else s [] lt = refl
   none_else s (x ∷ xs) lt = absurd (omega (arith, lt))

@@ -108,7 +108,7 @@ module _ (o m : ℕ) (s : List Scope) where
 
   pub printed_even : (l : ℕ) (e : Tree) (p : ℕ) → walked (base o m p s) (printed l e) ≡ base o m p s
   printed_even l (number at n) p = refl
-  printed_even l (name at x) p = refl
+  printed_even l (name at own x) p = refl
   printed_even l (negation at e) p = group_even (nat_lt 2 l) (Not ∷ printed 3 e) (λ q. printed_even 3 e q) p
   printed_even l (binary at op a b) p =
       group_even (nat_lt (level op) l) (printed (left_level op) a ++ Infix op ∷ printed (suc (level op)) b)
@@ -134,13 +134,13 @@ module _ (o m : ℕ) (s : List Scope) where
 
   looser_calm : (l : ℕ) (e : Tree) (p : ℕ) → Calm (base o m p s) (printed (suc l) e) → Calm (base o m p s) (printed l e)
   looser_calm l (number at n) p h = h
-  looser_calm l (name at x) p h = h
+  looser_calm l (name at own x) p h = h
   looser_calm l (negation at e) p h = group_looser 2 l (Not ∷ printed 3 e) p h
   looser_calm l (binary at op a b) p h = group_looser (level op) l (printed (left_level op) a ++ Infix op ∷ printed (suc (level op)) b) p h
 
   in_group : (e : Tree) (p : ℕ) → Allowed (base o m p s) Open → Calm (base o m (p + 1) s) (printed 0 e) → Calm (base o m p s) (printed 6 e)
   in_group (number at n) p a h = lowered (base o m (p + 1) s) p (Number n ∷ []) (omega arith) h
-  in_group (name at x) p a h = lowered (base o m (p + 1) s) p (Named x false ∷ []) (omega arith) h
+  in_group (name at own x) p a h = lowered (base o m (p + 1) s) p (Named x false ∷ []) (omega arith) h
   in_group (negation at e) p a h = group_calm (Not ∷ printed 3 e) p (printed_even 3 e (p + 1)) a h
   in_group (binary at op x y) p a h =
       let even = printed_even 0 (binary at op x y) (p + 1) in

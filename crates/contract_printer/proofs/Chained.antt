@@ -5,22 +5,22 @@ use Rattle.contract_grammar.specs.declared.token.Mark.TheVariants.{WordLet, Word
 use Rattle.contract_grammar.specs.declared.token.Operator.{Operator}
 use Rattle.contract_grammar.specs.declared.token.Token.{Token}
 use Rattle.contract_grammar.specs.declared.token.Token.TheVariants.{Number, Named, Infix, Not, Open, Close}
-use Rattle.contract_grammar.specs.declared.token.Span.{Span}
+use Rattle.contract_grammar.specs.declared.token.Extent.{Extent}
 use Rattle.contract_grammar.specs.declared.token.Placed.{Placed}
 use Rattle.contract_grammar.specs.Tree.{Tree, number, name, negation, binary, begun_at, Statement, define, assign, demand, choose, again, Statements, nil, then_one, Op}
 use Rattle.contract_grammar.specs.Grammar.{tok, fixed, level, left_level, Spells, of_number, of_name, of_group, of_not, of_binary, of_tighter, SpellsStatements, nothing, more, SpellsStatement, of_let, of_assign, of_require, of_if, of_else, of_repeat, SpellsBlock, block, SpellsOp, of_op, SpellsOps, no_ops, more_ops}
-use Rattle.contract_grammar.specs.Limits.{Looser, behind_open, behind_infix, behind_not, behind_becomes, behind_require, behind_if, is_chain, chain, IsChainEnd}
+use Rattle.contract_grammar.specs.Limits.{Looser, behind_open, behind_infix, behind_not, behind_becomes, behind_require, behind_if, is_chain, chain_length, IsChainEnd}
 use Rattle.contract_grammar.proofs.Expressions.{left_bounds}
 use Rattle.contract_grammar.proofs.Spelled.{loosened}
 use Rattle.contract_printer.proofs.Bare.{bare, bare_stmt, bare_all, bare_op}
 
 -- the operator behind this operand is not the 33rd of its chain
 abbrev pub IsShortChain : Operator → Tree → Type 0
-IsShortChain op a = (is_chain op && nat_le 32 (chain (level op) a)) ≡ false
+IsShortChain op a = (is_chain op && nat_le 32 (chain_length (level op) a)) ≡ false
 
 abbrev pub Chained : Tree → Type 0
 Chained (number at n) = Unit {0}
-Chained (name at x) = Unit {0}
+Chained (name at own x) = Unit {0}
 Chained (negation at e) = Chained e
 Chained (binary at op a b) = IsShortChain op a × Chained a × Chained b
 
@@ -50,27 +50,27 @@ all_less (p ∷ os) o h = let r = all_less os o h.1 in ((h.0, r.0), r.1)
 
 pub begun_chained : (p : ℕ) (e : Tree) → Chained e → Chained (begun_at p e)
 begun_chained p (number at n) h = h
-begun_chained p (name at x) h = h
+begun_chained p (name at own x) h = h
 begun_chained p (negation at e) h = h
 begun_chained p (binary at op a b) h = h
 
 pub chained_begun : (p : ℕ) (e : Tree) → Chained (begun_at p e) → Chained e
 chained_begun p (number at n) h = h
-chained_begun p (name at x) h = h
+chained_begun p (name at own x) h = h
 chained_begun p (negation at e) h = h
 chained_begun p (binary at op a b) h = h
 
 -- ---- chains don't depend on the bytes of a text
 
-chain_bare : (l : ℕ) (e : Tree) → chain l (bare e) ≡ chain l e
+chain_bare : (l : ℕ) (e : Tree) → chain_length l (bare e) ≡ chain_length l e
 chain_bare l (number at n) = refl
-chain_bare l (name at x) = refl
+chain_bare l (name at own x) = refl
 chain_bare l (negation at e) = refl
 chain_bare l (binary at op a b) = ap (λ n. if level op == l then n + 1 else 0) (chain_bare l a)
 
 chained_bare : (e : Tree) → Chained (bare e) ≡ Chained e
 chained_bare (number at n) = refl
-chained_bare (name at x) = refl
+chained_bare (name at own x) = refl
 chained_bare (negation at e) = chained_bare e
 chained_bare (binary at op a b) =
     let short = chain_bare (level op) a in
@@ -124,10 +124,10 @@ tighter l m _ le behind_becomes = behind_becomes
 tighter l m _ le behind_require = behind_require
 tighter l m _ le behind_if = behind_if
 
-short_chain : (before : List Placed) (k : Placed) (w : Span) (op : Operator) (xs ys : List Placed) (a : Tree) → Looser (level op) k.token → Spells (left_level op) xs a → NoEnd (before ++ k ∷ []) (xs ++ tok w (Infix op) ∷ ys) → IsShortChain op a
-short_chain before k w op xs ys a loose r h = by (is_chain op) (nat_le 32 (chain (level op) a)) refl refl
+short_chain : (before : List Placed) (k : Placed) (w : Extent) (op : Operator) (xs ys : List Placed) (a : Tree) → Looser (level op) k.token → Spells (left_level op) xs a → NoEnd (before ++ k ∷ []) (xs ++ tok w (Infix op) ∷ ys) → IsShortChain op a
+short_chain before k w op xs ys a loose r h = by (is_chain op) (nat_le 32 (chain_length (level op) a)) refl refl
   where
-    by : (c long : Bool) → is_chain op ≡ c → nat_le 32 (chain (level op) a) ≡ long → (c && long) ≡ false
+    by : (c long : Bool) → is_chain op ≡ c → nat_le 32 (chain_length (level op) a) ≡ long → (c && long) ≡ false
     by false long is e = refl
     by true false is e = refl
     by true true is e = absurd (h xs (tok w (Infix op)) ys refl (record {
@@ -136,7 +136,7 @@ short_chain before k w op xs ys a loose r h = by (is_chain op) (nat_le 32 (chain
       chains = is;
       operand = a;
       stands = record { before = before; token = k; own = xs; parts = append_assoc before (k ∷ []) xs; looser = loose; spells = loosened (level op) (left_level op) (left_bounds op).0 r };
-      long = leb-true 32 (chain (level op) a) e;
+      long = leb-true 32 (chain_length (level op) a) e;
     }))
 
 expr_chained : {l : ℕ} {ts : List Placed} {e : Tree} → Spells l ts e → (before : List Placed) (k : Placed) → Looser l k.token → NoEnd (before ++ k ∷ []) ts → Chained e

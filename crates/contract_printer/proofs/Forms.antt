@@ -18,12 +18,12 @@ use Rattle.txn_core.specs.declared.syntax.Stmt.{Stmt}
 use Rattle.txn_core.specs.declared.syntax.Stmt.TheVariants as stmt
 use Rattle.txn_core.specs.Meant.{operator_of, comparison_of, expr_of, cond_of, stmt_of, stmts_of}
 use Rattle.txn_core.specs.Forms.{expr_of-Calc, cond_of-And, cond_of-Or, cond_of-Not, stmt_of-If, stmt_of-Repeat}
-use Rattle.contract_printer.specs.declared.sheet.Sheet.{Sheet}
+use Rattle.contract_printer.specs.declared.spaced_text.SpacedText.{SpacedText}
 use Rattle.contract_printer.specs.Plain.{plain_operator, plain_comparison, param_name, local_name, plain_expr, plain_cond, visible_after, ahead, plain_stmt, plain_all}
 use Rattle.contract_printer.specs.Printed.{braced, printed_stmt, printed_all, printed_else}
-use Rattle.contract_printer.specs.Sheets.{put, put_all}
+use Rattle.contract_printer.specs.SpacedTexts.{put, put_all}
 
-pub put_both : (s : Sheet) (xs ys : List Token) → put_all s (xs ++ ys) ≡ put_all (put_all s xs) ys
+pub put_both : (s : SpacedText) (xs ys : List Token) → put_all s (xs ++ ys) ≡ put_all (put_all s xs) ys
 put_both s xs ys = fold-append put s xs ys
 
 pub printed_ahead : (s : Statement) (ss : Statements) → printed_all (ahead s ss) ≡ printed_stmt s ++ printed_all ss
@@ -39,15 +39,15 @@ module _ (params : List meant.Formal) (locals : List (List ℕ)) where
   unfolding expr_of plain_expr
   plain_expr-Num n = refl
 
-  pub plain_expr-Param : (i : ℕ) → plain_expr params locals (expr_of (expr.Param i)) ≡ name 0 (param_name params i)
+  pub plain_expr-Param : (i : ℕ) → plain_expr params locals (expr_of (expr.Param i)) ≡ name 0 0 (param_name params i)
   unfolding expr_of plain_expr
   plain_expr-Param i = refl
 
-  pub plain_expr-Local : (i : ℕ) → plain_expr params locals (expr_of (expr.Local i)) ≡ name 0 (local_name locals i)
+  pub plain_expr-Local : (i : ℕ) → plain_expr params locals (expr_of (expr.Local i)) ≡ name 0 0 (local_name locals i)
   unfolding expr_of plain_expr
   plain_expr-Local i = refl
 
-  pub plain_expr-Rec : (i : ℕ) → plain_expr params locals (expr_of (expr.Rec i)) ≡ name 0 (param_name params i)
+  pub plain_expr-Rec : (i : ℕ) → plain_expr params locals (expr_of (expr.Rec i)) ≡ name 0 0 (param_name params i)
   unfolding expr_of plain_expr
   plain_expr-Rec i = refl
 

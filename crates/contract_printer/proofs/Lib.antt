@@ -1,5 +1,5 @@
 pub mod Forms
-pub mod Sheets
+pub mod SpacedTexts
 pub mod Blocks
 pub mod Bare
 pub mod Untyped

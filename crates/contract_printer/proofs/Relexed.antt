@@ -2,6 +2,7 @@
 use Rattle.std.proofs.Common.{◌≡◌, ℕ, suc, ◌+◌, ◌-◌, ◌<◌, ◌&&◌, ◌==◌, Bool, true, false, List, [], ◌∷◌, ◌++◌, codes, length, refl, sym, ap, ◌∙◌, arith, if◌then◌else◌}
 use Rattle.std.specs.Prelude.{decimal as decimal_text}
 use Rattle.std.proofs.lemmas.Bool.Decides.{nat_tests}
+use Rattle.txn_types.specs.Values.{max_value}
 use Rattle.contract_grammar.specs.declared.token.Mark.{Mark}
 use Rattle.contract_grammar.specs.declared.token.Mark.TheVariants.{WordOp, WordLet, WordRequire, WordIf, WordElse, WordRepeat, WordRecord, WordNumber, OpenBlock, CloseBlock, Colon, Comma, Semicolon, Becomes}
 use Rattle.contract_grammar.specs.declared.token.Operator.{Operator}
@@ -17,7 +18,7 @@ use Rattle.contract_printer.proofs.Whole.{IsWordText, word_again, pick_other, dr
 
 -- the bytes of the token are read as it
 abbrev pub IsFine : Token → Type 0
-IsFine (Number n) = n < 4611686018427387904
+IsFine (Number n) = n < max_value + 1
 IsFine (Named x long) = IsWordText x (Named x long)
 IsFine Bad = ⊥
 IsFine _ = Unit {0}

@@ -1,5 +1,6 @@
 -- No two neighbours of printed tokens glue.
-use Rattle.std.proofs.Common.{◌≡◌, ℕ, suc, ◌<◌, Bool, true, false, nat_lt, List, [], ◌∷◌, ◌++◌, refl, sym, ap, ◌∙◌, subst}
+use Rattle.std.proofs.Common.{◌≡◌, ℕ, suc, ◌<◌, Bool, true, false, nat_lt, List, [], ◌∷◌, ◌++◌, refl, sym, ap, ◌∙◌, subst, ◌+◌}
+use Rattle.txn_types.specs.Values.{max_value}
 use Rattle.contract_grammar.specs.declared.token.Mark.TheVariants.{WordIf, WordElse, CloseBlock, Comma, Semicolon}
 use Rattle.contract_grammar.specs.declared.token.Operator.{Operator}
 use Rattle.contract_grammar.specs.declared.token.Token.{Token}
@@ -17,7 +18,7 @@ use Rattle.contract_printer.proofs.Whole.{IsWordText}
 
 -- numbers within the limit, and names that are read as they are
 abbrev pub IsUsual : Token → Type 0
-IsUsual (Number n) = n < 4611686018427387904
+IsUsual (Number n) = n < max_value + 1
 IsUsual (Named x long) = IsWordText x (Named x false)
 IsUsual _ = Unit {0}
 

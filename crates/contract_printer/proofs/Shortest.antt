@@ -24,7 +24,7 @@ inner_from op a b p = record { first = p.first; rest = p.rest ++ Infix op ∷ pr
 
 begins : (l : ℕ) (e : Tree) → Begins (printed l e)
 begins l (number at n) = record { first = Number n; rest = []; is = refl }
-begins l (name at x) = record { first = Named x false; rest = []; is = refl }
+begins l (name at own x) = record { first = Named x false; rest = []; is = refl }
 begins l (negation at e) = by_group (nat_lt 2 l) (Not ∷ printed 3 e) (record { first = Not; rest = printed 3 e; is = refl })
 begins l (binary at op a b) = by_group (nat_lt (level op) l) (inner op a b) (inner_from op a b (begins (left_level op) a))
 
@@ -47,7 +47,7 @@ group_longer k l ts b c p =
 
 tighter_longer : (l : ℕ) (e : Tree) (b c : Bool) → between b (printed l e) c ≤ between b (printed (suc l) e) c
 tighter_longer l (number at n) b c = omega arith
-tighter_longer l (name at x) b c = omega arith
+tighter_longer l (name at own x) b c = omega arith
 tighter_longer l (negation at e) b c = group_longer 2 l (Not ∷ printed 3 e) b c (record { first = Not; rest = printed 3 e; is = refl })
 tighter_longer l (binary at op x y) b c = group_longer (level op) l (inner op x y) b c (inner_begins op x y)
 
@@ -56,13 +56,13 @@ grouped_more k ts b c lt = rw (lt-ltb k 6 lt, le-ltb k 0 (omega arith)) (rw (in_
 
 two_more : (e : Tree) (b c : Bool) → between b (printed 6 e) c ≤ between false (printed 0 e) false + 2
 two_more (number at n) b c = loose_ends b (Number n) [] c
-two_more (name at x) b c = loose_ends b (Named x false) [] c
+two_more (name at own x) b c = loose_ends b (Named x false) [] c
 two_more (negation at e) b c = grouped_more 2 (Not ∷ printed 3 e) b c (omega arith)
 two_more (binary at op x y) b c = grouped_more (level op) (inner op x y) b c (left_bounds op).2
 
 pub printed_begun : (l p : ℕ) (e : Tree) → printed l (begun_at p e) ≡ printed l e
 printed_begun l p (number at n) = refl
-printed_begun l p (name at x) = refl
+printed_begun l p (name at own x) = refl
 printed_begun l p (negation at e) = refl
 printed_begun l p (binary at op a b) = refl
 

@@ -1,7 +1,7 @@
 -- Tokens in their places, taken apart as the tokens are.
 use Rattle.std.proofs.Common.{◌≡◌, List, [], ◌∷◌, ◌++◌, refl, sym, ap, ◌∙◌}
 use Rattle.contract_grammar.specs.declared.token.Token.{Token}
-use Rattle.contract_grammar.specs.declared.token.Span.{Span}
+use Rattle.contract_grammar.specs.declared.token.Extent.{Extent}
 use Rattle.contract_grammar.specs.declared.token.Placed.{Placed}
 use Rattle.contract_grammar.specs.Grammar.{tok}
 use Rattle.contract_printer.proofs.Between.{toks}
@@ -15,7 +15,7 @@ pub record Cut (ks : List Placed) (xs ys : List Token) : Type 0 where
 
 -- the first one and the others
 pub record Front (ks : List Placed) (t : Token) (ts : List Token) : Type 0 where
-  pub place : Span
+  pub place : Extent
   pub others : List Placed
   pub is : ks ≡ tok place t ∷ others
   pub others_is : toks others ≡ ts
@@ -51,7 +51,7 @@ cut (x ∷ xs) ys (k ∷ ks) h =
 
 -- one alone
 pub record Alone (ks : List Placed) (t : Token) : Type 0 where
-  pub place : Span
+  pub place : Extent
   pub is : ks ≡ tok place t ∷ []
 
 empty : (ks : List Placed) → toks ks ≡ [] → ks ≡ []
@@ -67,7 +67,7 @@ alone ks t h = let f = front ks t [] h in record { place = f.place; is = f.is �
 -- some, and a last one
 pub record Ended (ks : List Placed) (ts : List Token) (t : Token) : Type 0 where
   pub own : List Placed
-  pub place : Span
+  pub place : Extent
   pub is : ks ≡ own ++ tok place t ∷ []
   pub own_is : toks own ≡ ts
 

@@ -8,11 +8,12 @@ use Rattle.std.proofs.lemmas.Nat.{mul-le}
 use Rattle.std.proofs.lemmas.List.{length-take}
 use Rattle.std.proofs.lemmas.List.Sums.{take_while-cons}
 use Rattle.std.proofs.lemmas.Slice.Eq.{bytes_eq-Decides}
+use Rattle.txn_types.specs.Values.{max_value}
 use Rattle.contract_grammar.specs.declared.token.Mark.TheVariants.{WordOp, WordLet, WordRequire, WordIf, WordElse, WordRepeat, WordRecord, WordNumber, OpenBlock, CloseBlock, Colon, Comma, Semicolon, Becomes}
 use Rattle.contract_grammar.specs.declared.token.Operator.TheVariants.{Or, And, Equal, NotEqual, Less, LessEqual, Greater, GreaterEqual, Plus, Minus, Times, Divide, Remainder}
 use Rattle.contract_grammar.specs.declared.token.Token.{Token}
 use Rattle.contract_grammar.specs.declared.token.Token.TheVariants.{Number, Infix, Not, Open, Close, Fixed, Bad}
-use Rattle.contract_grammar.specs.Lexer.{is_letter, is_digit, is_name_byte, decimal, begins, is_padded, number_of, word_in_expression, word_in_block, word_of, single, joined, sign_at, digits_at, name_at, token_at}
+use Rattle.contract_grammar.specs.Lexer.{is_letter, is_digit, is_name_byte, decimal, begins, is_padded, number_of, word_in_expression, word_in_block, word_of, single, with_equals, sign_at, digits_at, name_at, token_at}
 use Rattle.contract_printer.specs.Canonical.{is_word, token_text}
 
 -- ---- runs of bytes
@@ -51,9 +52,9 @@ digits_bound (b ∷ bs) n = let rest = digits_bound bs (10 * n + (b - 48)) in rw
         omega (arith, rest, more)
     by rest false is = omega arith
 
-number_text : (bs : List ℕ) → 0 < length (take_while is_digit bs) → length (decimal_text (min (decimal 0 (take_while is_digit bs)) 4611686018427387904)) ≤ length (take_while is_digit bs)
+number_text : (bs : List ℕ) → 0 < length (take_while is_digit bs) → length (decimal_text (min (decimal 0 (take_while is_digit bs)) (max_value + 1))) ≤ length (take_while is_digit bs)
 number_text bs some =
-    let n = min (decimal 0 (take_while is_digit bs)) 4611686018427387904 in
+    let n = min (decimal 0 (take_while is_digit bs)) (max_value + 1) in
     let small : n < 10 ^ length (take_while is_digit bs) = omega (arith, digits_bound bs 0) in
     length-decimal-le (length (take_while is_digit bs)) n some small (omega arith)
 
@@ -98,10 +99,10 @@ at_if bytes false x y h k = k
 sign_is : (b : ℕ) (behind : List ℕ) (t : Token) → length (token_text t) ≤ 1 → is_word t ≡ false → IsAt (b ∷ behind) (t, 1)
 sign_is b behind t le is = record { text = le; some = omega arith; room = omega arith; ends = λ other. clash _ other is; apart = λ h. is }
 
-joined_is : (b : ℕ) (behind : List ℕ) (with_it alone : Token) → length (token_text with_it) ≤ 2 → length (token_text alone) ≤ 1 → is_word with_it ≡ false → is_word alone ≡ false
-    → IsAt (b ∷ behind) (joined behind with_it alone)
-joined_is b [] with_it alone two one is also = sign_is b [] alone one also
-joined_is b (c ∷ cs) with_it alone two one is also =
+with_equals_is : (b : ℕ) (behind : List ℕ) (with_it alone : Token) → length (token_text with_it) ≤ 2 → length (token_text alone) ≤ 1 → is_word with_it ≡ false → is_word alone ≡ false
+    → IsAt (b ∷ behind) (with_equals behind with_it alone)
+with_equals_is b [] with_it alone two one is also = sign_is b [] alone one also
+with_equals_is b (c ∷ cs) with_it alone two one is also =
     at_if (b ∷ c ∷ cs) _ (with_it, 2) (alone, 1) (record { text = two; some = omega arith; room = omega arith; ends = λ other. clash _ other is; apart = λ h. is }) (sign_is b (c ∷ cs) alone one also)
 
 -- a sign of one byte
@@ -124,10 +125,10 @@ single_is b =
 sign_at_is : (b : ℕ) (behind : List ℕ) → IsAt (b ∷ behind) (sign_at b behind)
 unfolding sign_at
 sign_at_is b behind =
-    at_if (b ∷ behind) _ (joined behind (Infix Equal) (Fixed Becomes)) _ (joined_is b behind (Infix Equal) (Fixed Becomes) (omega arith) (omega arith) refl refl)
-    (at_if (b ∷ behind) _ (joined behind (Infix NotEqual) Bad) _ (joined_is b behind (Infix NotEqual) Bad (omega arith) (omega arith) refl refl)
-    (at_if (b ∷ behind) _ (joined behind (Infix LessEqual) (Infix Less)) _ (joined_is b behind (Infix LessEqual) (Infix Less) (omega arith) (omega arith) refl refl)
-    (at_if (b ∷ behind) _ (joined behind (Infix GreaterEqual) (Infix Greater)) (single b, 1) (joined_is b behind (Infix GreaterEqual) (Infix Greater) (omega arith) (omega arith) refl refl)
+    at_if (b ∷ behind) _ (with_equals behind (Infix Equal) (Fixed Becomes)) _ (with_equals_is b behind (Infix Equal) (Fixed Becomes) (omega arith) (omega arith) refl refl)
+    (at_if (b ∷ behind) _ (with_equals behind (Infix NotEqual) Bad) _ (with_equals_is b behind (Infix NotEqual) Bad (omega arith) (omega arith) refl refl)
+    (at_if (b ∷ behind) _ (with_equals behind (Infix LessEqual) (Infix Less)) _ (with_equals_is b behind (Infix LessEqual) (Infix Less) (omega arith) (omega arith) refl refl)
+    (at_if (b ∷ behind) _ (with_equals behind (Infix GreaterEqual) (Infix Greater)) (single b, 1) (with_equals_is b behind (Infix GreaterEqual) (Infix Greater) (omega arith) (omega arith) refl refl)
     (sign_is b behind (single b) (single_is b).le (single_is b).is))))
 
 letter_name : (b : ℕ) → is_letter b ≡ true → is_name_byte b ≡ true
@@ -146,7 +147,7 @@ word_is b behind is = record {
 }
 
 number_is : (b : ℕ) (behind : List ℕ) (c d : Bool) → is_digit b ≡ true → begins is_name_byte (drop (length (digits_at (b ∷ behind))) (b ∷ behind)) ≡ d
-    → IsAt (b ∷ behind) (if c || d then (Bad, 1) else (Number (min (decimal 0 (digits_at (b ∷ behind))) 4611686018427387904), length (digits_at (b ∷ behind))))
+    → IsAt (b ∷ behind) (if c || d then (Bad, 1) else (Number (min (decimal 0 (digits_at (b ∷ behind))) (max_value + 1)), length (digits_at (b ∷ behind))))
 number_is b behind true d is e = sign_is b behind Bad (omega arith) refl
 number_is b behind false true is e = sign_is b behind Bad (omega arith) refl
 number_is b behind false false is e =

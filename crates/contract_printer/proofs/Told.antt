@@ -25,7 +25,7 @@ looser l m ks e le t = record { tree = t.tree; spells = loosened l m le t.spells
 
 bare_begun : (p : ℕ) (e : Tree) → bare (begun_at p e) ≡ bare e
 bare_begun p (number at n) = refl
-bare_begun p (name at x) = refl
+bare_begun p (name at own x) = refl
 bare_begun p (negation at e) = refl
 bare_begun p (binary at op a b) = refl
 
@@ -62,7 +62,7 @@ binary_told at op a b left right ks h =
 
 pub told : (l : ℕ) (e : Tree) → l ≤ 6 → (ks : List Placed) → toks ks ≡ printed l e → Told l ks e
 told l (number at n) le ks h = let a = alone ks (Number n) h in rw a.is (record { tree = number a.place.start n; spells = loosened l 6 le of_number; same = refl })
-told l (name at x) le ks h = let a = alone ks (Named x false) h in rw a.is (record { tree = name a.place.start x; spells = loosened l 6 le of_name; same = refl })
+told l (name at own x) le ks h = let a = alone ks (Named x false) h in rw a.is (record { tree = name a.place.start a.place.start x; spells = loosened l 6 le of_name; same = refl })
 told l (negation at e) le ks h = grouped_told 2 l (Not ∷ printed 3 e) (negation at e) le (not_told at e (told 3 e (omega arith))) ks h
 told l (binary at op a b) le ks h =
     let bounds = left_bounds op in

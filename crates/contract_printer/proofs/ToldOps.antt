@@ -3,7 +3,7 @@ use Rattle.std.proofs.Common.{◌≡◌, ℕ, false, List, [], ◌∷◌, ◌++�
 use Rattle.std.proofs.lemmas.List.{append-nil, map-append}
 use Rattle.contract_grammar.specs.declared.token.Mark.TheVariants.{WordOp, WordLet, WordRequire, WordIf, WordElse, WordRepeat, OpenBlock, CloseBlock, Colon, Comma, Semicolon, Becomes}
 use Rattle.contract_grammar.specs.declared.token.Token.TheVariants.{Number, Named, Open, Close, Fixed}
-use Rattle.contract_grammar.specs.declared.token.Span.{Span}
+use Rattle.contract_grammar.specs.declared.token.Extent.{Extent}
 use Rattle.contract_grammar.specs.declared.token.Placed.{Placed}
 use Rattle.contract_grammar.specs.declared.tree.ParamKind.{ParamKind}
 use Rattle.contract_grammar.specs.declared.tree.ParamKind.TheVariants as kind
@@ -130,7 +130,7 @@ record TellsParam (ks : List Placed) (p : Param) : Type 0 where
   spells : SpellsParam ks tree
   same : bare_param tree ≡ bare_param p
 
-param_by : (at : ℕ) (x : List ℕ) (k : ParamKind) (w v u : Span) → TellsParam (tok w (Named x false) ∷ fixed v Colon ∷ fixed u (kind_word k) ∷ []) (parameter at x k)
+param_by : (at : ℕ) (x : List ℕ) (k : ParamKind) (w v u : Extent) → TellsParam (tok w (Named x false) ∷ fixed v Colon ∷ fixed u (kind_word k) ∷ []) (parameter at x k)
 param_by at x kind.Record w v u = record { tree = parameter w.start x kind.Record; spells = of_record; same = refl }
 param_by at x kind.Number w v u = record { tree = parameter w.start x kind.Number; spells = of_amount; same = refl }
 

@@ -15,7 +15,7 @@ use Rattle.contract_text.specs.declared.symbols.Symbol.{Symbol}
 use Rattle.contract_text.specs.declared.symbols.Symbol.TheVariants as symbol
 use Rattle.contract_text.specs.Symbols.{parameter_symbol, among_params, among_locals, or_else, symbol_of, is_found, made, made_by}
 use Rattle.contract_text.specs.Flaws.{result_kind, operand_kind, kind_flaws, name_flaws, expr_flaws, target_flaws, double_flaws, stmt_flaws, all_flaws, param_flaws, op_flaws, flaws_behind}
-use Rattle.contract_text.specs.Typed.{calculation, used, calculated, typed_expr, joined, typed_cond, assigned, sequence, typed_stmt, typed_all, formal, typed_op}
+use Rattle.contract_text.specs.Typed.{calculation, used, calculated, typed_expr, combined, typed_cond, assigned, sequence, typed_stmt, typed_all, formal, typed_op}
 use Rattle.contract_printer.proofs.Bare.{bare, bare_stmt, bare_all, bare_param, bare_op}
 
 among_bare : (place : ℕ) (ps : List Param) (x : List ℕ) → among_params place (map bare_param ps) x ≡ among_params place ps x
@@ -53,9 +53,9 @@ kind_same value.Number value.Truth m n = refl
 kind_same value.Truth value.Number m n = refl
 kind_same value.Truth value.Truth m n = refl
 
-name_same : (o : Option Symbol) (wanted : ValueKind) (m n : ℕ) → kinds (name_flaws o wanted m) ≡ kinds (name_flaws o wanted n)
-name_same None wanted m n = refl
-name_same (Some s) wanted m n = kind_same value.Number wanted m n
+name_same : (o : Option Symbol) (wanted : ValueKind) (at own : ℕ) → kinds (name_flaws o wanted 0 0) ≡ kinds (name_flaws o wanted at own)
+name_same None wanted at own = refl
+name_same (Some s) wanted at own = kind_same value.Number wanted 0 at
 
 target_same : (o : Option Symbol) (m n : ℕ) → kinds (target_flaws o m) ≡ kinds (target_flaws o n)
 target_same None m n = refl
@@ -73,24 +73,24 @@ module _ (params : List Param) where
 
   number_bare : (locals : List (List ℕ)) (e : Tree) → typed_expr plain locals (bare e) ≡ typed_expr params locals e
   number_bare locals (number at n) = refl
-  number_bare locals (name at x) = ap used (symbol_bare params locals x)
+  number_bare locals (name at own x) = ap used (symbol_bare params locals x)
   number_bare locals (negation at e) = refl
   number_bare locals (binary at op a b) = let left = number_bare locals a in let right = number_bare locals b in λ i. calculated (calculation op) (left i) (right i)
 
   truth_bare : (locals : List (List ℕ)) (e : Tree) → typed_cond plain locals (bare e) ≡ typed_cond params locals e
   truth_bare locals (number at n) = refl
-  truth_bare locals (name at x) = refl
+  truth_bare locals (name at own x) = refl
   truth_bare locals (negation at e) = ap meant.Not (truth_bare locals e)
   truth_bare locals (binary at op a b) =
       let p = truth_bare locals a in
       let q = truth_bare locals b in
       let left = number_bare locals a in
       let right = number_bare locals b in
-      λ i. joined op (p i) (q i) (left i) (right i)
+      λ i. combined op (p i) (q i) (left i) (right i)
 
   expr_same : (locals : List (List ℕ)) (wanted : ValueKind) (e : Tree) → kinds (expr_flaws plain locals wanted (bare e)) ≡ kinds (expr_flaws params locals wanted e)
   expr_same locals wanted (number at n) = kind_same value.Number wanted 0 at
-  expr_same locals wanted (name at x) = ap (λ o. kinds (name_flaws o wanted 0)) (symbol_bare params locals x) ∙ name_same (symbol_of params locals x) wanted 0 at
+  expr_same locals wanted (name at own x) = ap (λ o. kinds (name_flaws o wanted 0 0)) (symbol_bare params locals x) ∙ name_same (symbol_of params locals x) wanted at own
   expr_same locals wanted (negation at e) = kinds_both (kind_flaws value.Truth wanted at) (expr_flaws params locals value.Truth e) (kind_flaws value.Truth wanted 0) _ (kind_same value.Truth wanted 0 at) (expr_same locals value.Truth e)
   expr_same locals wanted (binary at op a b) =
       kinds_both (kind_flaws (result_kind op) wanted at) (expr_flaws params locals (operand_kind op) a ++ expr_flaws params locals (operand_kind op) b) (kind_flaws (result_kind op) wanted 0) _ (kind_same (result_kind op) wanted 0 at)

@@ -7,9 +7,9 @@ use Rattle.contract_grammar.specs.declared.token.Token.TheVariants.{Number, Name
 use Rattle.contract_grammar.specs.declared.token.Placed.{Placed}
 use Rattle.contract_grammar.specs.Tree.{Tree, Statement, choose, again, Statements, nil, Op}
 use Rattle.contract_grammar.specs.Grammar.{left_level, SpellsOps}
-use Rattle.contract_grammar.specs.Frames.{Part, left, negate, Frame, group, part, State, want, have, level_of, filled, folded, fits, pushed, on_infix, on_close, step, ended}
-use Rattle.contract_grammar.specs.Frames as frames
-use Rattle.contract_grammar.specs.Modes.{Purpose, whole, first_block, second_block, turns, Block, Use, for_let, for_assign, for_require, for_if, Mode, at_op, at_op_name, at_open, at_first, at_param, at_colon, at_kind, at_more, at_block, at_stmt, at_let, at_equals, in_expr, at_count, at_else, At, at, put, closed, on_stmt, on_semicolon, on_brace, on_expr, on_mode, advance, reached, begin}
+use Rattle.contract_grammar.specs.Expressions.{Part, left, negate, Pending, group, part, Partial, want, have, level_of, filled, folded, fits, pushed, on_infix, on_close, taken, ended}
+use Rattle.contract_grammar.specs.Expressions as expressions
+use Rattle.contract_grammar.specs.Modes.{Purpose, whole, first_block, second_block, turns, Unclosed, Use, for_let, for_assign, for_require, for_if, Mode, at_op, at_op_name, at_open, at_first, at_param, at_colon, at_kind, at_more, at_block, at_stmt, at_let, at_equals, in_expr, at_count, at_else, At, at, with_stmt, closed, on_stmt, on_semicolon, on_brace, on_expr, on_mode, advance, reached, begin}
 use Rattle.contract_grammar.specs.Modes as mode
 use Rattle.contract_grammar.specs.Limits.{IsChainEnd}
 use Rattle.contract_grammar.specs.Reading.{ends_chain}
@@ -23,50 +23,50 @@ abbrev PartChained : Part → Type 0
 PartChained (left op a) = IsShortChain op a × Chained a
 PartChained (negate p) = Unit {0}
 
-abbrev FramesChained : List Frame → Type 0
-FramesChained [] = Unit {0}
-FramesChained (group p ∷ st) = FramesChained st
-FramesChained (part d ∷ st) = PartChained d × FramesChained st
+abbrev PendingChained : List Pending → Type 0
+PendingChained [] = Unit {0}
+PendingChained (group p ∷ st) = PendingChained st
+PendingChained (part d ∷ st) = PartChained d × PendingChained st
 
-abbrev StateChained : State → Type 0
-StateChained (want st) = FramesChained st
-StateChained (have e st) = Chained e × FramesChained st
+abbrev PartialChained : Partial → Type 0
+PartialChained (want st) = PendingChained st
+PartialChained (have e st) = Chained e × PendingChained st
 
-no_state : {A : Type 0} (s : State) → None ≡ Some s → A
+no_state : {A : Type 0} (s : Partial) → None ≡ Some s → A
 no_state s h = absurd cc
 
-same_state : (s s' : State) → Some s ≡ Some s' → StateChained s' → StateChained s
-same_state s s' h c = let is : s ≡ s' = cc in subst (λ v. StateChained v) (sym is) c
+same_state : (s s' : Partial) → Some s ≡ Some s' → PartialChained s' → PartialChained s
+same_state s s' h c = let is : s ≡ s' = cc in subst (λ v. PartialChained v) (sym is) c
 
 filled_back : (d : Part) (e : Tree) → Chained (filled d e) → PartChained d × Chained e
 filled_back (left op a) e h = ((h.0, h.1), h.2)
 filled_back (negate p) e h = (tt, h)
 
-fold_back : (l : ℕ) (e : Tree) (st : List Frame) → StateChained (folded l e st) → Chained e × FramesChained st
+fold_back : (l : ℕ) (e : Tree) (st : List Pending) → PartialChained (folded l e st) → Chained e × PendingChained st
 fold_back l e [] h = h
 fold_back l e (group p ∷ st) h = h
 fold_back l e (part d ∷ st) h = by (nat_le l (level_of d)) (fold_back l (filled d e) st) h
   where
-    by : (b : Bool) → (StateChained (folded l (filled d e) st) → Chained (filled d e) × FramesChained st) → StateChained (if b then folded l (filled d e) st else have e (part d ∷ st)) → Chained e × FramesChained (part d ∷ st)
+    by : (b : Bool) → (PartialChained (folded l (filled d e) st) → Chained (filled d e) × PendingChained st) → PartialChained (if b then folded l (filled d e) st else have e (part d ∷ st)) → Chained e × PendingChained (part d ∷ st)
     by true onward h = let r = onward h in let p = filled_back d e r.0 in (p.1, (p.0, r.1))
     by false onward h = h
 
-push_back : (d : Part) (st : List Frame) (b : Bool) (s : State) → (if b then Some (want (part d ∷ st)) else None) ≡ Some s → StateChained s → PartChained d × FramesChained st
+push_back : (d : Part) (st : List Pending) (b : Bool) (s : Partial) → (if b then Some (want (part d ∷ st)) else None) ≡ Some s → PartialChained s → PartChained d × PendingChained st
 push_back d st true s h c = same_state (want (part d ∷ st)) s h c
 push_back d st false s h c = no_state s h
 
-infix_back : (op : Operator) (z s : State) → on_infix op z ≡ Some s → StateChained s → StateChained z
+infix_back : (op : Operator) (z s : Partial) → on_infix op z ≡ Some s → PartialChained s → PartialChained z
 infix_back op (want st) s h c = no_state s h
 infix_back op (have e st) s h c = let r = push_back (left op e) st (fits (level_of (left op e)) st) s h c in (r.0.1, r.1)
 
-close_back : (z s : State) → on_close z ≡ Some s → StateChained s → StateChained z
+close_back : (z s : Partial) → on_close z ≡ Some s → PartialChained s → PartialChained z
 close_back (want st) s h c = no_state s h
 close_back (have e []) s h c = no_state s h
 close_back (have e (group p ∷ st)) s h c = let r = same_state _ s h c in (chained_begun p e r.0, r.1)
 close_back (have e (part d ∷ st)) s h c = no_state s h
 
-step_back : (z : State) (p : ℕ) (t : Token) (s : State) → step z p t ≡ Some s → StateChained s → StateChained z
-unfolding step
+step_back : (z : Partial) (p : ℕ) (t : Token) (s : Partial) → taken z p t ≡ Some s → PartialChained s → PartialChained z
+unfolding taken
 step_back (want st) p (Number n) s h c = (same_state _ s h c).1
 step_back (want st) p (Named x long) s h c = (same_state _ s h c).1
 step_back (want st) p Open s h c = same_state (want (group p ∷ st)) s h c
@@ -82,12 +82,12 @@ no_tree e h = absurd cc
 same_tree : (e e' : Tree) → Some e ≡ Some e' → Chained e' → Chained e
 same_tree e e' h c = let is : e ≡ e' = cc in subst (λ v. Chained v) (sym is) c
 
-end_back : (z : State) (e : Tree) → frames.at_end z ≡ Some e → Chained e → StateChained z
+end_back : (z : Partial) (e : Tree) → expressions.tree_at_end z ≡ Some e → Chained e → PartialChained z
 end_back (want st) e h c = no_tree e h
 end_back (have a []) e h c = (same_tree a e h c, tt)
 end_back (have a (f ∷ st)) e h c = no_tree e h
 
-ended_back : (z : State) (e : Tree) → ended z ≡ Some e → Chained e → StateChained z
+ended_back : (z : Partial) (e : Tree) → ended z ≡ Some e → Chained e → PartialChained z
 unfolding ended
 ended_back (want st) e h c = no_tree e h
 ended_back (have a st) e h c = fold_back 0 a st (end_back (folded 0 a st) e h c)
@@ -101,59 +101,59 @@ PurposeChained (second_block e b) = Chained e × AreChained b
 PurposeChained (turns n) = Unit {0}
 
 -- some block is open
-abbrev Inside : List Block → Type 0
+abbrev Inside : List Unclosed → Type 0
 Inside [] = ⊥
 Inside (b ∷ bs) = Unit {0}
 
 -- a block of statements stands in a block
-abbrev Stands : Purpose → List Block → Type 0
+abbrev Stands : Purpose → List Unclosed → Type 0
 Stands (whole h) bs = Unit {0}
 Stands _ bs = Inside bs
 
-abbrev BlocksChained : List Block → Type 0
-BlocksChained [] = Unit {0}
-BlocksChained (mode.block w ss ∷ bs) = PurposeChained w × Stands w bs × AreChained ss × BlocksChained bs
+abbrev UnclosedChained : List Unclosed → Type 0
+UnclosedChained [] = Unit {0}
+UnclosedChained (mode.unclosed w ss ∷ bs) = PurposeChained w × Stands w bs × AreChained ss × UnclosedChained bs
 
-abbrev ModeChained : Mode → List Block → Type 0
+abbrev ModeChained : Mode → List Unclosed → Type 0
 ModeChained (at_block w) bs = PurposeChained w × Stands w bs
 ModeChained at_stmt bs = Inside bs
 ModeChained at_let bs = Inside bs
 ModeChained (at_equals u) bs = Inside bs
-ModeChained (in_expr u s) bs = Inside bs × StateChained s
+ModeChained (in_expr u s) bs = Inside bs × PartialChained s
 ModeChained at_count bs = Inside bs
 ModeChained (at_else e b) bs = Inside bs × Chained e × AreChained b
 ModeChained _ bs = Unit {0}
 
-abbrev Sound : Mode → List Block → List Op → Type 0
-Sound m bs os = ModeChained m bs × BlocksChained bs × AllChained os
+abbrev Sound : Mode → List Unclosed → List Op → Type 0
+Sound m bs os = ModeChained m bs × UnclosedChained bs × AllChained os
 
 abbrev SoundAt : At → Type 0
 SoundAt z = Sound z.mode z.blocks z.done
 
-same_at : (m : Mode) (bs : List Block) (os : List Op) (a : At) → one (at m bs os) ≡ one a → SoundAt a → Sound m bs os
+same_at : (m : Mode) (bs : List Unclosed) (os : List Op) (a : At) → one (at m bs os) ≡ one a → SoundAt a → Sound m bs os
 same_at m bs os a h c = let is : at m bs os ≡ a = cc in subst (λ v. SoundAt v) (sym is) c
 
-put_back : (s : Statement) (bs : List Block) → Inside (put s bs) → BlocksChained (put s bs) → IsChained s × Inside bs × BlocksChained bs
+put_back : (s : Statement) (bs : List Unclosed) → Inside (with_stmt s bs) → UnclosedChained (with_stmt s bs) → IsChained s × Inside bs × UnclosedChained bs
 put_back s [] i c = absurd i
-put_back s (mode.block w ss ∷ bs) i c = (c.2.1, tt, (c.0, c.1, c.2.0, c.3))
+put_back s (mode.unclosed w ss ∷ bs) i c = (c.2.1, tt, (c.0, c.1, c.2.0, c.3))
 
-closed_back : (bs : List Block) (os : List Op) (a : At) → closed bs os ≡ one a → SoundAt a → Sound at_stmt bs os
+closed_back : (bs : List Unclosed) (os : List Op) (a : At) → closed bs os ≡ one a → SoundAt a → Sound at_stmt bs os
 closed_back [] os a h c = none a h
-closed_back (mode.block (whole k) ss ∷ bs) os a h c =
+closed_back (mode.unclosed (whole k) ss ∷ bs) os a h c =
     let r = same_at _ _ _ a h c in
     let l = all_less os _ r.2 in
     (tt, (tt, tt, l.1, r.1), l.0)
-closed_back (mode.block (first_block e) ss ∷ bs) os a h c = let r = same_at _ _ _ a h c in (tt, (r.0.1, r.0.0, r.0.2, r.1), r.2)
-closed_back (mode.block (second_block e b) ss ∷ bs) os a h c =
+closed_back (mode.unclosed (first_block e) ss ∷ bs) os a h c = let r = same_at _ _ _ a h c in (tt, (r.0.1, r.0.0, r.0.2, r.1), r.2)
+closed_back (mode.unclosed (second_block e b) ss ∷ bs) os a h c =
     let r = same_at _ _ _ a h c in
     let l = put_back (choose e b ss) bs r.0 r.1 in
     (tt, ((l.0.0, l.0.1), l.1, l.0.2, l.2), r.2)
-closed_back (mode.block (turns n) ss ∷ bs) os a h c =
+closed_back (mode.unclosed (turns n) ss ∷ bs) os a h c =
     let r = same_at _ _ _ a h c in
     let l = put_back (again n ss) bs r.0 r.1 in
     (tt, (tt, l.1, l.0, l.2), r.2)
 
-stmt_back : (p : ℕ) (t : Token) (bs : List Block) (os : List Op) (a : At) → on_stmt p t bs os ≡ one a → SoundAt a → Sound at_stmt bs os
+stmt_back : (p : ℕ) (t : Token) (bs : List Unclosed) (os : List Op) (a : At) → on_stmt p t bs os ≡ one a → SoundAt a → Sound at_stmt bs os
 stmt_back p (Fixed WordLet) bs os a h c = same_at at_let bs os a h c
 stmt_back p (Named x long) bs os a h c = same_at (at_equals (for_assign p x)) bs os a h c
 stmt_back p (Fixed WordRequire) bs os a h c = let r = same_at (in_expr for_require (want [])) bs os a h c in (r.0.0, r.1, r.2)
@@ -162,35 +162,35 @@ stmt_back p (Fixed WordRepeat) bs os a h c = same_at at_count bs os a h c
 stmt_back p (Fixed CloseBlock) bs os a h c = closed_back bs os a h c
 stmt_back p _ bs os a h c = none a h
 
-semicolon_back : (u : Use) (o : Option Tree) (s : State) (bs : List Block) (os : List Op) (a : At) → ended s ≡ o → on_semicolon u o bs os ≡ one a → SoundAt a → Sound (in_expr u s) bs os
+semicolon_back : (u : Use) (o : Option Tree) (s : Partial) (bs : List Unclosed) (os : List Op) (a : At) → ended s ≡ o → on_semicolon u o bs os ≡ one a → SoundAt a → Sound (in_expr u s) bs os
 semicolon_back u None s bs os a is h c = none a h
 semicolon_back (for_let p x) (Some e) s bs os a is h c = let r = same_at at_stmt _ os a h c in let l = put_back _ bs r.0 r.1 in ((l.1, ended_back s e is l.0), l.2, r.2)
 semicolon_back (for_assign p x) (Some e) s bs os a is h c = let r = same_at at_stmt _ os a h c in let l = put_back _ bs r.0 r.1 in ((l.1, ended_back s e is l.0), l.2, r.2)
 semicolon_back for_require (Some e) s bs os a is h c = let r = same_at at_stmt _ os a h c in let l = put_back _ bs r.0 r.1 in ((l.1, ended_back s e is l.0), l.2, r.2)
 semicolon_back for_if (Some e) s bs os a is h c = none a h
 
-brace_back : (u : Use) (o : Option Tree) (s : State) (bs : List Block) (os : List Op) (a : At) → ended s ≡ o → on_brace u o bs os ≡ one a → SoundAt a → Sound (in_expr u s) bs os
+brace_back : (u : Use) (o : Option Tree) (s : Partial) (bs : List Unclosed) (os : List Op) (a : At) → ended s ≡ o → on_brace u o bs os ≡ one a → SoundAt a → Sound (in_expr u s) bs os
 brace_back u None s bs os a is h c = none a h
 brace_back for_if (Some e) s bs os a is h c = let r = same_at at_stmt _ os a h c in ((r.1.1, ended_back s e is r.1.0), r.1.3, r.2)
 brace_back _ (Some e) s bs os a is h c = none a h
 
-state_back : (u : Use) (o : Option State) (s : State) (p : ℕ) (t : Token) (bs : List Block) (os : List Op) (a : At) → step s p t ≡ o → option_map (λ z. at (in_expr u z) bs os) o ≡ one a → SoundAt a → Sound (in_expr u s) bs os
+state_back : (u : Use) (o : Option Partial) (s : Partial) (p : ℕ) (t : Token) (bs : List Unclosed) (os : List Op) (a : At) → taken s p t ≡ o → option_map (λ z. at (in_expr u z) bs os) o ≡ one a → SoundAt a → Sound (in_expr u s) bs os
 state_back u None s p t bs os a is h c = none a h
 state_back u (Some z) s p t bs os a is h c = let r = same_at (in_expr u z) bs os a h c in ((r.0.0, step_back s p t z is r.0.1), r.1, r.2)
 
-expr_back : (u : Use) (s : State) (p : ℕ) (t : Token) (bs : List Block) (os : List Op) (a : At) → on_expr u s p t bs os ≡ one a → SoundAt a → Sound (in_expr u s) bs os
+expr_back : (u : Use) (s : Partial) (p : ℕ) (t : Token) (bs : List Unclosed) (os : List Op) (a : At) → on_expr u s p t bs os ≡ one a → SoundAt a → Sound (in_expr u s) bs os
 expr_back u s p (Fixed Semicolon) bs os a h c = semicolon_back u (ended s) s bs os a refl h c
 expr_back u s p (Fixed OpenBlock) bs os a h c = brace_back u (ended s) s bs os a refl h c
-expr_back u s p t bs os a h c = state_back u (step s p t) s p t bs os a refl h c
+expr_back u s p t bs os a h c = state_back u (taken s p t) s p t bs os a refl h c
 
-else_back : (e : Tree) (b : Statements) (p : ℕ) (t : Token) (bs : List Block) (os : List Op) (a : At) → mode.on_else e b p t bs os ≡ one a → SoundAt a → Sound (at_else e b) bs os
+else_back : (e : Tree) (b : Statements) (p : ℕ) (t : Token) (bs : List Unclosed) (os : List Op) (a : At) → mode.on_else e b p t bs os ≡ one a → SoundAt a → Sound (at_else e b) bs os
 else_back e b p (Fixed WordElse) bs os a h c = let r = same_at (at_block (second_block e b)) bs os a h c in ((r.0.1, r.0.0.0, r.0.0.1), r.1, r.2)
 else_back e b p t bs os a h c =
-    let r = stmt_back p t (put (choose e b nil) bs) os a h c in
+    let r = stmt_back p t (with_stmt (choose e b nil) bs) os a h c in
     let l = put_back (choose e b nil) bs r.0 r.1 in
     ((l.1, l.0.0, l.0.1), l.2, r.2)
 
-mode_back : (m : Mode) (p : ℕ) (t : Token) (bs : List Block) (os : List Op) (a : At) → on_mode m p t bs os ≡ one a → SoundAt a → Sound m bs os
+mode_back : (m : Mode) (p : ℕ) (t : Token) (bs : List Unclosed) (os : List Op) (a : At) → on_mode m p t bs os ≡ one a → SoundAt a → Sound m bs os
 mode_back at_op p (Fixed WordOp) bs os a h c = same_at at_op_name bs os a h c
 mode_back at_op p _ bs os a h c = none a h
 mode_back at_op_name p (Named x long) bs os a h c = same_at (at_open p x) bs os a h c
@@ -210,7 +210,7 @@ mode_back (at_kind k q x) p _ bs os a h c = none a h
 mode_back (at_more k) p (Fixed Comma) bs os a h c = same_at (at_param k) bs os a h c
 mode_back (at_more k) p Close bs os a h c = let r = same_at (at_block (whole k)) bs os a h c in (tt, r.1, r.2)
 mode_back (at_more k) p _ bs os a h c = none a h
-mode_back (at_block w) p (Fixed OpenBlock) bs os a h c = let r = same_at at_stmt (mode.block w nil ∷ bs) os a h c in ((r.1.0, r.1.1), r.1.3, r.2)
+mode_back (at_block w) p (Fixed OpenBlock) bs os a h c = let r = same_at at_stmt (mode.unclosed w nil ∷ bs) os a h c in ((r.1.0, r.1.1), r.1.3, r.2)
 mode_back (at_block w) p _ bs os a h c = none a h
 mode_back at_stmt p t bs os a h c = stmt_back p t bs os a h c
 mode_back at_let p (Named x long) bs os a h c = same_at (at_equals (for_let p x)) bs os a h c
@@ -245,7 +245,7 @@ reached_back (k ∷ ks) z a h c =
     let s = steps z a k ks h in
     mode_back z.mode k.span.start k.token z.blocks z.done s.next s.step (reached_back ks s.next a s.rest c)
 
-no_end : (m : Mode) (bs : List Block) → ModeChained m bs → ends_chain m ≡ false
+no_end : (m : Mode) (bs : List Unclosed) → ModeChained m bs → ends_chain m ≡ false
 no_end (in_expr u (want (part (left op e) ∷ st))) bs c = c.1.0.0
 no_end (in_expr u (want (part (negate p) ∷ st))) bs c = refl
 no_end (in_expr u (want (group p ∷ st))) bs c = refl

@@ -126,23 +126,23 @@ number_operator LessEqual at e = absurd (not_empty _ _ e)
 number_operator Greater at e = absurd (not_empty _ _ e)
 number_operator GreaterEqual at e = absurd (not_empty _ _ e)
 
-name_is_number : (o : Option Symbol) (at : ℕ) → name_flaws o value.Truth at ≡ [] → ⊥
-name_is_number None at e = not_empty _ _ e
-name_is_number (Some s) at e = not_empty _ _ e
+name_is_number : (o : Option Symbol) (at own : ℕ) → name_flaws o value.Truth at own ≡ [] → ⊥
+name_is_number None at own e = not_empty _ _ e
+name_is_number (Some s) at own e = not_empty _ _ e
 
 module _ (params : List Param) where
   abbrev formals : List meant.Formal
   formals = map formal params
 
-  symbol_plain : (locals : List (List ℕ)) (x : List ℕ) (s : Symbol) → Has formals locals x s → plain_expr formals locals (used (Some s)) ≡ name 0 x
+  symbol_plain : (locals : List (List ℕ)) (x : List ℕ) (s : Symbol) → Has formals locals x s → plain_expr formals locals (used (Some s)) ≡ name 0 0 x
   unfolding plain_expr
-  symbol_plain locals x (symbol.Rec i) h = ap (name 0) h
-  symbol_plain locals x (symbol.Num i) h = ap (name 0) h
-  symbol_plain locals x (symbol.Local i) h = ap (name 0) h
+  symbol_plain locals x (symbol.Rec i) h = ap (name 0 0) h
+  symbol_plain locals x (symbol.Num i) h = ap (name 0 0) h
+  symbol_plain locals x (symbol.Local i) h = ap (name 0 0) h
 
-  name_plain : (locals : List (List ℕ)) (at : ℕ) (x : List ℕ) (o : Option Symbol) → symbol_of params locals x ≡ o → name_flaws o value.Number at ≡ [] → plain_expr formals locals (used o) ≡ name 0 x
-  name_plain locals at x None is e = absurd (not_empty _ _ e)
-  name_plain locals at x (Some s) is e = symbol_plain locals x s (has params locals x s is)
+  name_plain : (locals : List (List ℕ)) (at own : ℕ) (x : List ℕ) (o : Option Symbol) → symbol_of params locals x ≡ o → name_flaws o value.Number at own ≡ [] → plain_expr formals locals (used o) ≡ name 0 0 x
+  name_plain locals at own x None is e = absurd (not_empty _ _ e)
+  name_plain locals at own x (Some s) is e = symbol_plain locals x s (has params locals x s is)
 
   calculated_plain : (locals : List (List ℕ)) (op : Operator) (c : IsCalculation op) (a b : meant.Expr) (x y : Tree) → plain_expr formals locals a ≡ x → plain_expr formals locals b ≡ y
       → plain_expr formals locals (calculated (calculation op) a b) ≡ binary 0 op x y
@@ -152,7 +152,7 @@ module _ (params : List Param) where
   pub number_plain : (locals : List (List ℕ)) (e : Tree) → expr_flaws params locals value.Number e ≡ [] → plain_expr formals locals (typed_expr params locals e) ≡ bare e
   unfolding plain_expr
   number_plain locals (number at n) none = refl
-  number_plain locals (name at x) none = name_plain locals at x (symbol_of params locals x) refl none
+  number_plain locals (name at own x) none = name_plain locals at own x (symbol_of params locals x) refl none
   number_plain locals (negation at e) none = absurd (not_empty _ _ none)
   number_plain locals (binary at op a b) none =
       let parts = empty_parts (kind_flaws (result_kind op) value.Number at) _ none in
@@ -173,7 +173,7 @@ module _ (params : List Param) where
   pub truth_plain : (locals : List (List ℕ)) (e : Tree) → expr_flaws params locals value.Truth e ≡ [] → plain_cond formals locals (typed_cond params locals e) ≡ bare e
   unfolding plain_cond
   truth_plain locals (number at n) none = absurd (not_empty _ _ none)
-  truth_plain locals (name at x) none = absurd (name_is_number (symbol_of params locals x) at none)
+  truth_plain locals (name at own x) none = absurd (name_is_number (symbol_of params locals x) at own none)
   truth_plain locals (negation at e) none = ap (negation 0) (truth_plain locals e none)
   truth_plain locals (binary at Or a b) none =
       let both = empty_parts (expr_flaws params locals value.Truth a) (expr_flaws params locals value.Truth b) none in

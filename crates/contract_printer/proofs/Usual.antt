@@ -5,12 +5,13 @@ use Rattle.std.proofs.lemmas.Bool.{or_parts}
 use Rattle.std.proofs.lemmas.Bool.Decides.{nat_tests}
 use Rattle.std.proofs.lemmas.List.{take_all}
 use Rattle.std.proofs.lemmas.List.Sums.{take_while-cons}
+use Rattle.txn_types.specs.Values.{max_value}
 use Rattle.contract_grammar.specs.declared.token.Mark.TheVariants.{WordOp, WordLet, WordRequire, WordIf, WordElse, WordRepeat, WordRecord, WordNumber, OpenBlock, CloseBlock, Colon, Comma, Semicolon, Becomes}
 use Rattle.contract_grammar.specs.declared.token.Operator.TheVariants.{Or, And, Equal, NotEqual, Less, LessEqual, Greater, GreaterEqual, Plus, Minus, Times, Divide, Remainder}
 use Rattle.contract_grammar.specs.declared.token.Token.{Token}
 use Rattle.contract_grammar.specs.declared.token.Token.TheVariants.{Number, Named, Infix, Not, Open, Close, Fixed, Bad}
 use Rattle.contract_grammar.specs.declared.token.Placed.{Placed}
-use Rattle.contract_grammar.specs.Lexer.{is_space, is_letter, is_digit, is_name_byte, begins, number_of, named, word_in_expression, word_in_block, word_of, single, joined, sign_at, digits_at, name_at, token_at, placed, lexed, tokens}
+use Rattle.contract_grammar.specs.Lexer.{is_space, is_letter, is_digit, is_name_byte, begins, number_of, named, word_in_expression, word_in_block, word_of, single, with_equals, sign_at, digits_at, name_at, token_at, placed, lexed, tokens}
 use Rattle.contract_grammar.specs.Limits.{Tally, no_tally, tallied, passes, is_large, is_long_name, IsWithinLimits}
 use Rattle.contract_text.proofs.Quiet.{Quiet, quiet_within}
 use Rattle.contract_printer.proofs.Whole.{IsWordText, run_again}
@@ -81,8 +82,8 @@ read_if false x y h k = k
 plain_read : (t : Token) (n : ℕ) → NotNamed t → IsRead (t, n)
 plain_read t n h = record { is = no_name t h }
 
-joined_read : (behind : List ℕ) (t u : Token) → NotNamed t → NotNamed u → IsRead (joined behind t u)
-joined_read behind t u h k = read_if _ (t, 2) (u, 1) (plain_read t 2 h) (plain_read u 1 k)
+with_equals_read : (behind : List ℕ) (t u : Token) → NotNamed t → NotNamed u → IsRead (with_equals behind t u)
+with_equals_read behind t u h k = read_if _ (t, 2) (u, 1) (plain_read t 2 h) (plain_read u 1 k)
 
 whole_if : (c : Bool) (t u : Token) → IsWhole t → IsWhole u → IsWhole (if c then t else u)
 whole_if true t u h k = h
@@ -99,10 +100,10 @@ single_whole b =
 sign_read : (b : ℕ) (behind : List ℕ) → IsRead (sign_at b behind)
 unfolding sign_at
 sign_read b behind =
-    read_if _ (joined behind (Infix Equal) (Fixed Becomes)) _ (joined_read behind (Infix Equal) (Fixed Becomes) tt tt)
-    (read_if _ (joined behind (Infix NotEqual) Bad) _ (joined_read behind (Infix NotEqual) Bad tt tt)
-    (read_if _ (joined behind (Infix LessEqual) (Infix Less)) _ (joined_read behind (Infix LessEqual) (Infix Less) tt tt)
-    (read_if _ (joined behind (Infix GreaterEqual) (Infix Greater)) (single b, 1) (joined_read behind (Infix GreaterEqual) (Infix Greater) tt tt) (record { is = single_whole b }))))
+    read_if _ (with_equals behind (Infix Equal) (Fixed Becomes)) _ (with_equals_read behind (Infix Equal) (Fixed Becomes) tt tt)
+    (read_if _ (with_equals behind (Infix NotEqual) Bad) _ (with_equals_read behind (Infix NotEqual) Bad tt tt)
+    (read_if _ (with_equals behind (Infix LessEqual) (Infix Less)) _ (with_equals_read behind (Infix LessEqual) (Infix Less) tt tt)
+    (read_if _ (with_equals behind (Infix GreaterEqual) (Infix Greater)) (single b, 1) (with_equals_read behind (Infix GreaterEqual) (Infix Greater) tt tt) (record { is = single_whole b }))))
 
 number_read : (digits behind : List ℕ) → IsRead (number_of digits behind)
 unfolding number_of
@@ -135,7 +136,7 @@ lexed_whole at zero (b ∷ bs) =
       | false ↦ ((token_read b bs).is, lexed_whole (at + 1) ((token_at (b ∷ bs)).1 - 1) bs)
     ]
 
-small : (n : ℕ) → nat_lt 4611686018427387903 n ≡ false → n < 4611686018427387904
+small : (n : ℕ) → nat_lt max_value n ≡ false → n < max_value + 1
 small n h = grind (arith, nat_tests)
 
 usual : (t : Token) → IsWhole t → is_large t ≡ false → is_long_name t ≡ false → IsUsual t

@@ -5,6 +5,7 @@ use Rattle.std.proofs.lemmas.Bool.{or_parts}
 use Rattle.std.proofs.lemmas.Bool.Decides.{nat_tests}
 use Rattle.std.proofs.lemmas.Fmt.{decimal_by_steps}
 use Rattle.std.proofs.lemmas.List.Sums.{take_while-cons}
+use Rattle.txn_types.specs.Values.{max_value}
 use Rattle.contract_grammar.specs.declared.token.Token.{Token}
 use Rattle.contract_grammar.specs.declared.token.Token.TheVariants.{Number}
 use Rattle.contract_grammar.specs.Lexer.{is_letter, is_digit, is_name_byte, decimal, begins, is_padded, number_of, word_of, token_at}
@@ -148,11 +149,11 @@ pub dropped : (xs ys : List ℕ) → drop (length xs) (xs ++ ys) ≡ ys
 dropped [] ys = refl
 dropped (x ∷ xs) ys = dropped xs ys
 
-number_is : (n : ℕ) (ds rest : List ℕ) → n < 4611686018427387904 → IsNumber n ds → begins is_name_byte rest ≡ false → number_of ds rest ≡ (Number n, length ds)
+number_is : (n : ℕ) (ds rest : List ℕ) → n < max_value + 1 → IsNumber n ds → begins is_name_byte rest ≡ false → number_of ds rest ≡ (Number n, length ds)
 unfolding number_of
-number_is n ds rest small h k = let capped : min n 4611686018427387904 ≡ n = omega arith in rw (unpadded n ds h, k, h.value, capped) refl
+number_is n ds rest small h k = let capped : min n (max_value + 1) ≡ n = omega arith in rw (unpadded n ds h, k, h.value, capped) refl
 
-number_by : (n : ℕ) (ds rest : List ℕ) → n < 4611686018427387904 → IsNumber n ds → begins is_name_byte rest ≡ false → token_at (ds ++ rest) ≡ (Number n, length ds)
+number_by : (n : ℕ) (ds rest : List ℕ) → n < max_value + 1 → IsNumber n ds → begins is_name_byte rest ≡ false → token_at (ds ++ rest) ≡ (Number n, length ds)
 unfolding token_at
 number_by n [] rest small h k = absurd (omega (arith, h.some))
 number_by n (d ∷ ds) rest small h k =
@@ -163,5 +164,5 @@ number_by n (d ∷ ds) rest small h k =
     ∙ ap (λ (l : List ℕ). number_of (d ∷ ds) l) (dropped (d ∷ ds) rest)
     ∙ number_is n (d ∷ ds) rest small h k
 
-pub number_again : (n : ℕ) (rest : List ℕ) → n < 4611686018427387904 → begins is_name_byte rest ≡ false → token_at (decimal_text n ++ rest) ≡ (Number n, length (decimal_text n))
+pub number_again : (n : ℕ) (rest : List ℕ) → n < max_value + 1 → begins is_name_byte rest ≡ false → token_at (decimal_text n ++ rest) ≡ (Number n, length (decimal_text n))
 number_again n rest small k = number_by n (decimal_text n) rest small (digits_of_number n (omega arith)) k

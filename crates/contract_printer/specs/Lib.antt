@@ -6,9 +6,9 @@ pub use Rattle.contract_grammar.specs.Grammar
 pub use Rattle.contract_grammar.specs.Limits
 pub use Rattle.contract_text.specs.Flaws
 pub use Rattle.contract_text.specs.Typed
-pub use Rattle.contract_text.specs.Verdict
+pub use Rattle.contract_text.specs.TextMeaning
 pub mod Plain
 pub mod Printed
 pub mod Canonical
-pub mod Sheets
+pub mod SpacedTexts
 pub mod Laws

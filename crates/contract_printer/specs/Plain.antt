@@ -46,9 +46,9 @@ local_name locals i = known_name (slice_get locals i)
 module _ (params : List Formal) where
   unfoldable pub plain_expr : List Name → Expr → Tree
   plain_expr locals (Num n) = number 0 n
-  plain_expr locals (Param i) = name 0 (param_name params i)
-  plain_expr locals (Local i) = name 0 (local_name locals i)
-  plain_expr locals (Rec i) = name 0 (param_name params i)
+  plain_expr locals (Param i) = name 0 0 (param_name params i)
+  plain_expr locals (Local i) = name 0 0 (local_name locals i)
+  plain_expr locals (Rec i) = name 0 0 (param_name params i)
   plain_expr locals (Calc op a b) = binary 0 (plain_operator op) (plain_expr locals a) (plain_expr locals b)
 
   unfoldable pub plain_cond : List Name → Cond → Tree

@@ -19,7 +19,7 @@ grouped false ts = ts
 -- an expression that stands where this level is wanted
 abbrev pub printed : ℕ → Tree → List Token
 printed l (number at n) = Number n ∷ []
-printed l (name at x) = Named x false ∷ []
+printed l (name at own x) = Named x false ∷ []
 printed l (negation at e) = grouped (nat_lt 2 l) (Not ∷ printed 3 e)
 printed l (binary at op a b) = grouped (nat_lt (level op) l) (printed (left_level op) a ++ Infix op ∷ printed (suc (level op)) b)
 

@@ -3,9 +3,9 @@ ghost use Rattle.contract_grammar.specs.Grammar.{level, left_level};
 ghost use Rattle.txn_core.specs.Meant.{operator_of, comparison_of, formal_of, expr_of, cond_of};
 ghost use Rattle.contract_printer.specs.Plain.{plain_operator, plain_comparison, param_name, local_name, plain_expr, plain_cond};
 ghost use Rattle.contract_printer.specs.Printed.{printed};
-ghost use Rattle.contract_printer.specs.Sheets.{put_all};
+ghost use Rattle.contract_printer.specs.SpacedTexts.{put_all};
 
-use crate::sheet::Sheet;
+use crate::spaced_text::SpacedText;
 use contract_grammar::Operator;
 use txn_core::{Calc, Cmp, Cond, Expr, Param};
 use txn_types::{Name, OutOfMemory};
@@ -70,7 +70,7 @@ pub fn local_name<'a>(locals: &'a [Name], slot: u8) -> &'a [u8]
 /// Writes a number where this level is wanted.
 #[tactic(auto, using(crate::proofs::Forms::exprs))]
 pub fn put_expr(
-    out: &mut Sheet,
+    out: &mut SpacedText,
     params: &[Param],
     locals: &[Name],
     least: u8,
@@ -104,7 +104,7 @@ pub fn put_expr(
 /// Writes a truth value where this level is wanted.
 #[tactic(auto, using(crate::proofs::Forms::conds))]
 pub fn put_cond(
-    out: &mut Sheet,
+    out: &mut SpacedText,
     params: &[Param],
     locals: &[Name],
     least: u8,

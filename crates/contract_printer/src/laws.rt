@@ -1,11 +1,11 @@
-ghost use Rattle.contract_printer.specs.Laws.{ContractsHaveOneCanonicalText, CanonicalTextsAreShortest, CanonicalTextsHaveTheirTokens, CanonicalTextsSpellTheirContracts, CanonicalTextsReadAsTheirContracts};
+ghost use Rattle.contract_printer.specs.Laws.{ContractsHaveOneCanonicalText, CanonicalTextsAreShortest, CanonicalTextsHaveTheirTokens, CanonicalTextsReadAsTheirContracts};
 
-/// Texts that read as one contract have one canonical text.
+/// Texts that are one contract have one canonical text.
 pub fn contracts_have_one_canonical_text()
     ensures law { ContractsHaveOneCanonicalText }
 {}
 
-/// No text that reads as a contract is shorter than its canonical text.
+/// No text of a contract is shorter than its canonical text.
 pub fn canonical_texts_are_shortest()
     ensures law { CanonicalTextsAreShortest }
 {}
@@ -15,12 +15,7 @@ pub fn canonical_texts_have_their_tokens()
     ensures law { CanonicalTextsHaveTheirTokens }
 {}
 
-/// A canonical text spells its contract.
-pub fn canonical_texts_spell_their_contracts()
-    ensures law { CanonicalTextsSpellTheirContracts }
-{}
-
-/// A canonical text reads as its contract.
+/// The canonical text of a contract is a text of it.
 pub fn canonical_texts_read_as_their_contracts()
     ensures law { CanonicalTextsReadAsTheirContracts }
 {}

@@ -4,14 +4,11 @@
 mod expressions;
 mod laws;
 mod operations;
-mod sheet;
+mod spaced_text;
 mod statements;
-#[cfg(test)]
-mod tests;
 
 pub use laws::{
     canonical_texts_are_shortest, canonical_texts_have_their_tokens,
-    canonical_texts_read_as_their_contracts, canonical_texts_spell_their_contracts,
-    contracts_have_one_canonical_text,
+    canonical_texts_read_as_their_contracts, contracts_have_one_canonical_text,
 };
 pub use operations::print_contract;

@@ -4,10 +4,10 @@ ghost use Rattle.contract_grammar.specs.declared.token.Token.TheVariants.{Fixed}
 ghost use Rattle.txn_core.specs.Meant.{formal_of, expr_of, stmt_of, stmts_of};
 ghost use Rattle.contract_printer.specs.Plain.{plain_expr, visible_after, plain_stmt, plain_all};
 ghost use Rattle.contract_printer.specs.Printed.{ended, braced, printed_stmt, printed_all, printed_else};
-ghost use Rattle.contract_printer.specs.Sheets.{put_all};
+ghost use Rattle.contract_printer.specs.SpacedTexts.{put_all};
 
 use crate::expressions::{local_name, param_name, put_cond, put_expr};
-use crate::sheet::Sheet;
+use crate::spaced_text::SpacedText;
 use contract_grammar::Mark;
 use txn_core::{Expr, Param, Stmt};
 use txn_types::{Name, Names, OutOfMemory};
@@ -15,7 +15,7 @@ use txn_types::{Name, Names, OutOfMemory};
 /// Writes a number and a semicolon.
 #[tactic(auto, using(crate::proofs::Forms::put_both))]
 fn put_value(
-    out: &mut Sheet,
+    out: &mut SpacedText,
     params: &[Param],
     locals: &[Name],
     value: &Expr,
@@ -30,7 +30,7 @@ fn put_value(
 #[cycle(blocks)]
 #[tactic(auto, using(crate::proofs::Forms::stmts))]
 fn put_stmt(
-    out: &mut Sheet,
+    out: &mut SpacedText,
     params: &[Param],
     locals: &mut Names,
     stmt: &Stmt,
@@ -82,7 +82,7 @@ fn put_stmt(
 #[cycle(blocks)]
 #[tactic(auto, using(crate::proofs::Forms::lists))]
 fn put_else(
-    out: &mut Sheet,
+    out: &mut SpacedText,
     params: &[Param],
     locals: &mut Names,
     body: &[Stmt],
@@ -103,7 +103,7 @@ fn put_else(
 #[cycle(blocks)]
 #[tactic(auto, using(crate::proofs::Forms::put_both))]
 pub fn put_block(
-    out: &mut Sheet,
+    out: &mut SpacedText,
     params: &[Param],
     locals: &mut Names,
     body: &[Stmt],
@@ -120,7 +120,7 @@ pub fn put_block(
 #[cycle(blocks)]
 #[tactic(auto, using(crate::proofs::Forms::lists))]
 fn put_stmts(
-    out: &mut Sheet,
+    out: &mut SpacedText,
     params: &[Param],
     locals: &mut Names,
     body: &[Stmt],
@@ -141,7 +141,7 @@ fn put_stmts(
 #[cycle(blocks)]
 #[tactic(auto, using(crate::proofs::Forms::visibles))]
 fn put_after(
-    out: &mut Sheet,
+    out: &mut SpacedText,
     params: &[Param],
     locals: &mut Names,
     first: &Stmt,

@@ -1,6 +1,7 @@
 -- The counts stay small while no token passes a limit.
 use Rattle.std.proofs.Common.{◌≡◌, ℕ, ◌+◌, ◌*◌, ◌≤◌, Bool, true, false, ◌||◌, List, [], ◌∷◌, refl, arith}
 use Rattle.std.proofs.lemmas.Bool.{ltb-false}
+use Rattle.txn_types.specs.Values.{max_turns}
 use Rattle.contract_grammar.specs.declared.token.Mark.TheVariants.{WordOp, WordLet, WordRepeat, OpenBlock, CloseBlock, Comma}
 use Rattle.contract_grammar.specs.declared.token.Token.{Token}
 use Rattle.contract_grammar.specs.declared.token.Token.TheVariants.{Number, Open, Close, Fixed}
@@ -30,7 +31,7 @@ locals_small : (scopes : List Scope) (n : ℕ) → AreSmallScopes scopes n → l
 locals_small [] n h = omega arith
 locals_small (s ∷ scopes) n h = h.1
 
-product_small : (scopes : List Scope) (n : ℕ) → AreSmallScopes scopes n → product_in scopes ≤ 1024
+product_small : (scopes : List Scope) (n : ℕ) → AreSmallScopes scopes n → product_in scopes ≤ max_turns
 product_small [] n h = omega arith
 product_small (s ∷ scopes) n h = h.0
 
@@ -42,13 +43,13 @@ first_small : (scopes : List Scope) (n : ℕ) → AreSmallScopes scopes n → Ar
 first_small [] n h = tt
 first_small (s ∷ scopes) n h = scopes_more scopes n h.2
 
-scopes_small : (b : Previous) (scopes : List Scope) (n : ℕ) (t : Token) → factor b * product_in scopes ≤ 1024 → AreSmallScopes scopes n → AreSmallScopes (scopes_after b scopes t) (n + 1)
+scopes_small : (b : Previous) (scopes : List Scope) (n : ℕ) (t : Token) → factor b * product_in scopes ≤ max_turns → AreSmallScopes scopes n → AreSmallScopes (scopes_after b scopes t) (n + 1)
 scopes_small b scopes n (Fixed OpenBlock) le h = (le, (let small = locals_small scopes n h in omega arith), scopes_more scopes n h)
 scopes_small b scopes n (Fixed CloseBlock) le h = first_small scopes n h
 scopes_small b scopes n (Fixed WordLet) le h = local_small scopes n h
 scopes_small b scopes n _ le h = scopes_more scopes n h
 
-one_times : (scopes : List Scope) (n : ℕ) → AreSmallScopes scopes n → 1 * product_in scopes ≤ 1024
+one_times : (scopes : List Scope) (n : ℕ) → AreSmallScopes scopes n → 1 * product_in scopes ≤ max_turns
 one_times scopes n h = let small = product_small scopes n h in omega arith
 
 last_of_three : (a b c : Bool) → (a || (b || c)) ≡ false → c ≡ false
@@ -57,8 +58,8 @@ last_of_three false true c h = cc
 last_of_three true b c h = cc
 
 -- where the next block's count is not bad, its product is small
-product_after : (b : Previous) (scopes after : List Scope) (n : ℕ) (t : Token) → is_bad_count b scopes t ≡ false → after ≡ scopes_after b scopes t → AreSmallScopes after n → factor (previous_after b t) * product_in after ≤ 1024
-product_after repeat_word scopes after n (Number m) good is h = rw is (ltb-false 1024 (m * product_in scopes) (last_of_three _ _ _ good))
+product_after : (b : Previous) (scopes after : List Scope) (n : ℕ) (t : Token) → is_bad_count b scopes t ≡ false → after ≡ scopes_after b scopes t → AreSmallScopes after n → factor (previous_after b t) * product_in after ≤ max_turns
+product_after repeat_word scopes after n (Number m) good is h = rw is (ltb-false max_turns (m * product_in scopes) (last_of_three _ _ _ good))
 product_after b scopes after n (Fixed WordRepeat) good is h = one_times after n h
 product_after b scopes after n (Fixed WordLet) good is h = one_times after n h
 product_after b scopes after n (Fixed Comma) good is h = one_times after n h

@@ -1,5 +1,6 @@
 -- What the reader counts, without where it lies in memory: the innermost block comes first.
 use Rattle.std.specs.Prelude.{ℕ, ◌*◌, ◌≤◌, List, [], ◌∷◌, map, reverse}
+use Rattle.txn_types.specs.Values.{max_turns}
 use Rattle.contract_reader.specs.declared.counts.Previous.{Previous}
 use Rattle.contract_reader.specs.declared.counts.Previous.TheVariants as previous
 use Rattle.contract_reader.specs.declared.counts.Scope.{Scope}
@@ -36,7 +37,7 @@ tally_of c = record {
 -- in each open block
 abbrev pub AreSmallScopes : List limits.Scope → ℕ → Type 0
 AreSmallScopes [] n = Unit {0}
-AreSmallScopes (s ∷ scopes) n = (s.product ≤ 1024) × (s.locals ≤ n) × AreSmallScopes scopes n
+AreSmallScopes (s ∷ scopes) n = (s.product ≤ max_turns) × (s.locals ≤ n) × AreSmallScopes scopes n
 
 -- no count is above the number of tokens so far, and no product above 1,024
 pub record AreSmall (c : limits.Tally) (n : ℕ) : Type 0 where
@@ -44,4 +45,4 @@ pub record AreSmall (c : limits.Tally) (n : ℕ) : Type 0 where
   pub commas : c.commas ≤ n
   pub parentheses : c.parentheses ≤ n
   pub scopes : AreSmallScopes c.scopes n
-  pub product : limits.factor c.previous * limits.product_in c.scopes ≤ 1024
+  pub product : limits.factor c.previous * limits.product_in c.scopes ≤ max_turns

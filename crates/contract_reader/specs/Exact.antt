@@ -9,14 +9,14 @@ use Rattle.contract_grammar.specs.Faults.{IsSyntaxFault, IsLimitFault}
 use Rattle.contract_grammar.specs.Reading.{Reading, reads, syntax_at, limit_at}
 
 -- this reading, unless memory runs out
-abbrev pub Gives : Result (List Operation) ReadFault → Reading → Type 0
-Gives (Ok ops) r = r ≡ reads (operations ops)
-Gives (Err (fault.Syntax at)) r = r ≡ syntax_at at
-Gives (Err (fault.Limit at)) r = r ≡ limit_at at
-Gives (Err fault.OutOfMemory) r = Unit {0}
+abbrev pub GivesReading : Result (List Operation) ReadFault → Reading → Type 0
+GivesReading (Ok ops) r = r ≡ reads (operations ops)
+GivesReading (Err (fault.Syntax at)) r = r ≡ syntax_at at
+GivesReading (Err (fault.Limit at)) r = r ≡ limit_at at
+GivesReading (Err fault.OutOfMemory) r = Unit {0}
 
 -- the fault of a text that comes first
-abbrev pub HasFault : List ℕ → ReadFault → Type 0
-HasFault text (fault.Syntax at) = IsSyntaxFault (tokens text) (length text) at
-HasFault text (fault.Limit at) = IsLimitFault (tokens text) at
-HasFault text fault.OutOfMemory = Unit {0}
+abbrev pub HasReadFault : List ℕ → ReadFault → Type 0
+HasReadFault text (fault.Syntax at) = IsSyntaxFault (tokens text) (length text) at
+HasReadFault text (fault.Limit at) = IsLimitFault (tokens text) at
+HasReadFault text fault.OutOfMemory = Unit {0}

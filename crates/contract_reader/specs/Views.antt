@@ -1,13 +1,13 @@
 -- The reader's state, without where it lies in memory: what was opened last comes first.
 use Rattle.std.specs.Prelude.{◌≡◌, List, map, reverse, Option, Some, None, Result, Ok, Err}
-use Rattle.contract_reader.specs.declared.state.Frame.{Frame}
-use Rattle.contract_reader.specs.declared.state.Frame.TheVariants as frame
+use Rattle.contract_reader.specs.declared.state.Pending.{Pending}
+use Rattle.contract_reader.specs.declared.state.Pending.TheVariants as pending
 use Rattle.contract_reader.specs.declared.state.Partial.{Partial}
 use Rattle.contract_reader.specs.declared.state.Use.{Use}
 use Rattle.contract_reader.specs.declared.state.Use.TheVariants as use_
 use Rattle.contract_reader.specs.declared.state.Purpose.{Purpose}
 use Rattle.contract_reader.specs.declared.state.Purpose.TheVariants as purpose
-use Rattle.contract_reader.specs.declared.state.Open.{Open}
+use Rattle.contract_reader.specs.declared.state.Unclosed.{Unclosed}
 use Rattle.contract_reader.specs.declared.state.Mode.{Mode}
 use Rattle.contract_reader.specs.declared.state.Mode.TheVariants as mode
 use Rattle.contract_reader.specs.declared.state.Nest.{Nest}
@@ -15,27 +15,27 @@ use Rattle.contract_reader.specs.declared.state.Refusal.{Refusal}
 use Rattle.contract_reader.specs.declared.state.Refusal.TheVariants as refusal
 use Rattle.contract_grammar.specs.declared.tree.Expr.{Expr}
 use Rattle.contract_grammar.specs.Tree.{tree, statements, operations}
-use Rattle.contract_grammar.specs.Frames as frames
+use Rattle.contract_grammar.specs.Expressions as expressions
 use Rattle.contract_grammar.specs.Modes as modes
 
 -- what is open in an expression
-abbrev pub frame_of : Frame → frames.Frame
-frame_of (frame.Group at) = frames.group at
-frame_of (frame.Left op e) = frames.part (frames.left op (tree e))
-frame_of (frame.Not at) = frames.part (frames.negate at)
+abbrev pub pending_of : Pending → expressions.Pending
+pending_of (pending.Group at) = expressions.group at
+pending_of (pending.Left op e) = expressions.part (expressions.left op (tree e))
+pending_of (pending.Not at) = expressions.part (expressions.negate at)
 
 -- all of it
-abbrev pub stack : List Frame → List frames.Frame
-stack fs = map frame_of (reverse fs)
+abbrev pub stack : List Pending → List expressions.Pending
+stack fs = map pending_of (reverse fs)
 
 -- with an operand or without
-abbrev pub state_of : Option Expr → List frames.Frame → frames.State
-state_of None st = frames.want st
-state_of (Some e) st = frames.have (tree e) st
+abbrev pub partial_with : Option Expr → List expressions.Pending → expressions.Partial
+partial_with None st = expressions.want st
+partial_with (Some e) st = expressions.have (tree e) st
 
 -- where the reading of an expression stands
-abbrev pub state : Partial → frames.State
-state s = state_of s.operand (stack s.frames.items)
+abbrev pub partial_of : Partial → expressions.Partial
+partial_of s = partial_with s.operand (stack s.pending.items)
 
 -- what an expression is for
 abbrev pub use_of : Use → modes.Use
@@ -52,12 +52,12 @@ purpose_of (purpose.Second e b) = modes.second_block (tree e) (statements b)
 purpose_of (purpose.Turns n) = modes.turns n
 
 -- an open block
-abbrev pub block_of : Open → modes.Block
-block_of o = modes.block (purpose_of o.purpose) (statements o.stmts)
+abbrev pub unclosed_of : Unclosed → modes.Unclosed
+unclosed_of o = modes.unclosed (purpose_of o.purpose) (statements o.stmts)
 
 -- the open blocks
-abbrev pub blocks_of : List Open → List modes.Block
-blocks_of os = map block_of (reverse os)
+abbrev pub blocks_of : List Unclosed → List modes.Unclosed
+blocks_of os = map unclosed_of (reverse os)
 
 -- what comes next
 abbrev pub mode_of : Mode → modes.Mode
@@ -73,7 +73,7 @@ mode_of (mode.Block w) = modes.at_block (purpose_of w)
 mode_of mode.Stmt = modes.at_stmt
 mode_of mode.Let = modes.at_let
 mode_of (mode.Equals u) = modes.at_equals (use_of u)
-mode_of (mode.Expr u s) = modes.in_expr (use_of u) (state s)
+mode_of (mode.Expr u s) = modes.in_expr (use_of u) (partial_of s)
 mode_of mode.Count = modes.at_count
 mode_of (mode.Else e b) = modes.at_else (tree e) (statements b)
 
@@ -82,8 +82,8 @@ abbrev pub at_of : Mode → Nest → modes.At
 at_of m n = modes.at (mode_of m) (blocks_of n.blocks.items) (operations n.done)
 
 -- a step in an expression, unless memory runs out
-abbrev pub Steps : Result Partial Refusal → Option frames.State → Type 0
-Steps (Ok s) next = next ≡ Some (state s)
+abbrev pub Steps : Result Partial Refusal → Option expressions.Partial → Type 0
+Steps (Ok s) next = next ≡ Some (partial_of s)
 Steps (Err refusal.Syntax) next = next ≡ None
 Steps (Err refusal.OutOfMemory) next = Unit {0}
 

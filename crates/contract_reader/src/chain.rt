@@ -1,23 +1,23 @@
 ghost use Rattle.std.specs.Prelude.{◌≡◌, nat_le};
 ghost use Rattle.contract_grammar.specs.Tree.{tree};
-ghost use Rattle.contract_grammar.specs.Limits.{chain, is_chain};
+ghost use Rattle.contract_grammar.specs.Limits.{chain_length, is_chain};
 ghost use Rattle.contract_grammar.specs.Reading.{is_chain_end, ends_chain};
-ghost use Rattle.contract_reader.specs.Views.{mode_of, state};
+ghost use Rattle.contract_reader.specs.Views.{mode_of, partial_of};
 
 use crate::expression::level;
-use crate::state::{Frame, Mode, Partial};
+use crate::state::{Mode, Partial, Pending};
 use contract_grammar::{Expr, Operator};
 
 /// Whether a chain of this level has so many operators.
 fn reaches(own: u8, e: &Expr, count: u8) -> bool
-    ensures { result ≡ nat_le count (chain own (tree e.now)) }
+    ensures { result ≡ nat_le count (chain_length own (tree e.now)) }
 {
     if count == 0 {
         return true;
     }
     match e {
         Expr::Binary(_, op, a, _) => level(*op) == own && reaches(own, a, count - 1),
-        Expr::Number(_, _) | Expr::Named(_, _) | Expr::Not(_, _) => false,
+        Expr::Number(_, _) | Expr::Named { .. } | Expr::Not(_, _) => false,
     }
 }
 
@@ -30,14 +30,14 @@ fn is_chain(op: Operator) -> bool
 
 /// Whether the operator that was just read is the 33rd of its chain.
 fn is_chain_end(partial: &Partial) -> bool
-    ensures { result ≡ is_chain_end (state partial.now) }
+    ensures { result ≡ is_chain_end (partial_of partial.now) }
 {
     if partial.operand.is_some() {
         return false;
     }
-    match partial.frames.last() {
-        Some(Frame::Left(op, e)) => is_chain(*op) && reaches(level(*op), e, 32),
-        Some(Frame::Group(_)) | Some(Frame::Not(_)) | None => false,
+    match partial.pending.last() {
+        Some(Pending::Left(op, e)) => is_chain(*op) && reaches(level(*op), e, 32),
+        Some(Pending::Group(_)) | Some(Pending::Not(_)) | None => false,
     }
 }
 

@@ -1,10 +1,11 @@
 ghost use Rattle.std.specs.Prelude.{◌≡◌, ◌≤◌, ◌<◌, ◌+◌, ◌*◌, ◌^◌, ◌||◌, OnOk, nat_lt};
+ghost use Rattle.txn_types.specs.Values.{max_turns};
 ghost use Rattle.contract_grammar.specs.Limits.{ops_after, begun_after, commas_after, parentheses_after, previous_after, factor, product_in, locals_in, with_local, without_first, scopes_after, tallied, no_tally, is_large, is_long_name, is_bad_count, is_deep, is_further_name, is_further_op, is_far, passes};
 ghost use Rattle.contract_reader.specs.Counted.{previous_of, scopes_of, tally_of, AreSmall};
 
 use contract_grammar::{Mark, Placed, Token};
 use std::alloc::Global;
-use txn_types::{MAX, OutOfMemory};
+use txn_types::{MAX, MAX_TURNS, OutOfMemory};
 
 /// What stands directly before a token, where a limit depends on it.
 #[derive(Clone, Copy, Debug, PartialEq, Eq)]
@@ -137,7 +138,7 @@ fn scopes_after(
     scopes: &mut Vec<Scope>,
     token: &Token,
 ) -> Result<(), OutOfMemory>
-    requires product { factor (previous_of previous) * product_in (scopes_of scopes.old.items) ≤ 1024 }
+    requires product { factor (previous_of previous) * product_in (scopes_of scopes.old.items) ≤ max_turns }
     requires locals { locals_in (scopes_of scopes.old.items) + 1 < 2 ^ 64 }
     ensures { OnOk result (scopes_of scopes.new.items ≡ scopes_after (previous_of previous) (scopes_of scopes.old.items) token.now) }
 {
@@ -178,7 +179,7 @@ pub fn count(counts: &mut Counts, placed: &Placed) -> Result<(), OutOfMemory>
     requires ops { counts.old.ops + 1 < 2 ^ 64 }
     requires commas { counts.old.commas + 1 < 2 ^ 64 }
     requires parentheses { counts.old.parentheses + 1 < 2 ^ 64 }
-    requires product { factor (previous_of counts.old.previous) * product_in (scopes_of counts.old.scopes.items) ≤ 1024 }
+    requires product { factor (previous_of counts.old.previous) * product_in (scopes_of counts.old.scopes.items) ≤ max_turns }
     requires locals { locals_in (scopes_of counts.old.scopes.items) + 1 < 2 ^ 64 }
     ensures { OnOk result (tally_of counts.new ≡ tallied (tally_of counts.old) placed.now) }
 {
@@ -211,9 +212,9 @@ fn is_long_name(token: &Token) -> bool
 }
 
 fn is_bad_number(n: u64, product: u64) -> bool
-    ensures { result ≡ (nat_lt n 1 || (nat_lt 64 n || nat_lt 1024 (n * product))) }
+    ensures { result ≡ (nat_lt n 1 || (nat_lt 64 n || nat_lt max_turns (n * product))) }
 {
-    n < 1 || n > 64 || n.saturating_mul(product) > 1024
+    n < 1 || n > 64 || n.saturating_mul(product) > MAX_TURNS
 }
 
 fn is_bad_count(previous: Previous, scopes: &Vec<Scope>, token: &Token) -> bool

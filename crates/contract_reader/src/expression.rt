@@ -1,10 +1,10 @@
 ghost use Rattle.std.specs.Prelude.{◌≡◌, ◌≤◌, IfOk, option_map};
 ghost use Rattle.contract_grammar.specs.Tree.{tree, first, begun_at};
 ghost use Rattle.contract_grammar.specs.Grammar.{level, left_level};
-ghost use Rattle.contract_grammar.specs.Frames.{folded, fits, have, pushed, left, negate, on_want, on_have, step, ended};
-ghost use Rattle.contract_reader.specs.Views.{stack, state, Steps};
+ghost use Rattle.contract_grammar.specs.Expressions.{folded, fits, have, pushed, left, negate, on_want, on_have, taken, ended};
+ghost use Rattle.contract_reader.specs.Views.{stack, partial_of, Steps};
 
-use crate::state::{Frame, Partial, Refusal};
+use crate::state::{Partial, Pending, Refusal};
 use contract_grammar::{Expr, Operator, Token};
 use std::alloc::Global;
 use txn_types::OutOfMemory;
@@ -41,19 +41,19 @@ fn first(e: &Expr) -> u32
 {
     match e {
         Expr::Number(at, _) => *at,
-        Expr::Named(at, _) => *at,
+        Expr::Named { at, .. } => *at,
         Expr::Not(at, _) => *at,
         Expr::Binary(at, _, _, _) => *at,
     }
 }
 
-/// The same expression behind a parenthesis at this byte.
+/// The same expression behind a parenthesis at this byte; a name keeps its own byte.
 fn begun_at(at: u32, e: Expr) -> Expr
     ensures { tree result ≡ begun_at at (tree e) }
 {
     match e {
         Expr::Number(_, n) => Expr::Number(at, n),
-        Expr::Named(_, name) => Expr::Named(at, name),
+        Expr::Named { at: _, own, name } => Expr::Named { at, own, name },
         Expr::Not(_, a) => Expr::Not(at, a),
         Expr::Binary(_, op, a, b) => Expr::Binary(at, op, a, b),
     }
@@ -64,20 +64,20 @@ fn fold(
     alloc: Global,
     least: u8,
     operand: Expr,
-    frames: &mut Vec<Frame>,
+    pending: &mut Vec<Pending>,
 ) -> Result<Expr, OutOfMemory>
-    ensures { IfOk result (λ e. folded least (tree operand) (stack frames.old.items) ≡ have (tree e) (stack frames.new.items)) }
+    ensures { IfOk result (λ e. folded least (tree operand) (stack pending.old.items) ≡ have (tree e) (stack pending.new.items)) }
 {
     let mut operand = operand;
-    while let Some(frame) = frames.pop() {
-        match frame {
-            Frame::Group(at) => {
-                frames.push(Frame::Group(at))?;
+    while let Some(last) = pending.pop() {
+        match last {
+            Pending::Group(at) => {
+                pending.push(Pending::Group(at))?;
                 return Ok(operand);
             }
-            Frame::Left(op, left) => {
+            Pending::Left(op, left) => {
                 if level(op) < least {
-                    frames.push(Frame::Left(op, left))?;
+                    pending.push(Pending::Left(op, left))?;
                     return Ok(operand);
                 }
                 operand = Expr::Binary(
@@ -87,9 +87,9 @@ fn fold(
                     Box::new(alloc, operand)?,
                 );
             }
-            Frame::Not(at) => {
+            Pending::Not(at) => {
                 if 2 < least {
-                    frames.push(Frame::Not(at))?;
+                    pending.push(Pending::Not(at))?;
                     return Ok(operand);
                 }
                 operand = Expr::Not(at, Box::new(alloc, operand)?);
@@ -100,92 +100,95 @@ fn fold(
 }
 
 /// Whether what is on top lets an operand of this level stand there.
-fn fits(least: u8, frames: &Vec<Frame>) -> bool
-    ensures { result ≡ fits least (stack frames.now.items) }
+fn fits(least: u8, pending: &Vec<Pending>) -> bool
+    ensures { result ≡ fits least (stack pending.now.items) }
 {
-    match frames.last() {
+    match pending.last() {
         None => true,
-        Some(Frame::Group(_)) => true,
-        Some(Frame::Left(op, _)) => level(*op) < least,
-        Some(Frame::Not(_)) => 2 < least,
+        Some(Pending::Group(_)) => true,
+        Some(Pending::Left(op, _)) => level(*op) < least,
+        Some(Pending::Not(_)) => 2 < least,
     }
 }
 
 /// Takes an operator with its left side, where it can stand.
-fn push_left(op: Operator, side: Expr, frames: Vec<Frame>) -> Result<Partial, Refusal>
-    ensures { Steps result (pushed (left op (tree side)) (stack frames.items)) }
+fn push_left(op: Operator, side: Expr, pending: Vec<Pending>) -> Result<Partial, Refusal>
+    ensures { Steps result (pushed (left op (tree side)) (stack pending.items)) }
 {
-    if !fits(level(op), &frames) {
+    if !fits(level(op), &pending) {
         return Err(Refusal::Syntax);
     }
-    let mut frames = frames;
-    frames.push(Frame::Left(op, side))?;
+    let mut pending = pending;
+    pending.push(Pending::Left(op, side))?;
     Ok(Partial {
         operand: None,
-        frames,
+        pending,
     })
 }
 
 /// Takes a `not`, where it can stand.
-fn push_not(at: u32, frames: Vec<Frame>) -> Result<Partial, Refusal>
-    ensures { Steps result (pushed (negate at) (stack frames.items)) }
+fn push_not(at: u32, pending: Vec<Pending>) -> Result<Partial, Refusal>
+    ensures { Steps result (pushed (negate at) (stack pending.items)) }
 {
-    if !fits(2, &frames) {
+    if !fits(2, &pending) {
         return Err(Refusal::Syntax);
     }
-    let mut frames = frames;
-    frames.push(Frame::Not(at))?;
+    let mut pending = pending;
+    pending.push(Pending::Not(at))?;
     Ok(Partial {
         operand: None,
-        frames,
+        pending,
     })
 }
 
 /// Takes an operand that one token is.
-fn operand(e: Expr, frames: Vec<Frame>) -> Partial
-    ensures { state result ≡ have (tree e) (stack frames.items) }
+fn operand(e: Expr, pending: Vec<Pending>) -> Partial
+    ensures { partial_of result ≡ have (tree e) (stack pending.items) }
 {
     Partial {
         operand: Some(e),
-        frames,
+        pending,
     }
 }
 
 /// Takes a token where an operand is wanted.
-fn on_want(at: u32, token: &Token, frames: Vec<Frame>) -> Result<Partial, Refusal>
-    ensures { Steps result (on_want at token.now (stack frames.items)) }
+fn on_want(at: u32, token: &Token, pending: Vec<Pending>) -> Result<Partial, Refusal>
+    ensures { Steps result (on_want at token.now (stack pending.items)) }
 {
     match token {
-        Token::Number(n) => Ok(operand(Expr::Number(at, *n), frames)),
-        Token::Named(name, _) => Ok(operand(Expr::Named(at, name.copy()), frames)),
+        Token::Number(n) => Ok(operand(Expr::Number(at, *n), pending)),
+        Token::Named(name, _) => {
+            let name = name.copy();
+            Ok(operand(Expr::Named { at, own: at, name }, pending))
+        }
         Token::Open => {
-            let mut frames = frames;
-            frames.push(Frame::Group(at))?;
+            let mut pending = pending;
+            pending.push(Pending::Group(at))?;
             Ok(Partial {
                 operand: None,
-                frames,
+                pending,
             })
         }
-        Token::Not => push_not(at, frames),
+        Token::Not => push_not(at, pending),
         Token::Infix(_) | Token::Close | Token::Fixed(_) | Token::Bad => Err(Refusal::Syntax),
     }
 }
 
 /// Takes a token where there is an operand.
-fn on_have(alloc: Global, token: &Token, e: Expr, frames: Vec<Frame>) -> Result<Partial, Refusal>
-    ensures { Steps result (on_have token.now (tree e) (stack frames.items)) }
+fn on_have(alloc: Global, token: &Token, e: Expr, pending: Vec<Pending>) -> Result<Partial, Refusal>
+    ensures { Steps result (on_have token.now (tree e) (stack pending.items)) }
 {
-    let mut frames = frames;
+    let mut pending = pending;
     match token {
         Token::Infix(op) => {
-            let left = fold(alloc, left_level(*op), e, &mut frames)?;
-            push_left(*op, left, frames)
+            let left = fold(alloc, left_level(*op), e, &mut pending)?;
+            push_left(*op, left, pending)
         }
         Token::Close => {
-            let inner = fold(alloc, 0, e, &mut frames)?;
-            match frames.pop() {
-                Some(Frame::Group(at)) => Ok(operand(begun_at(at, inner), frames)),
-                Some(Frame::Left(_, _)) | Some(Frame::Not(_)) | None => Err(Refusal::Syntax),
+            let inner = fold(alloc, 0, e, &mut pending)?;
+            match pending.pop() {
+                Some(Pending::Group(at)) => Ok(operand(begun_at(at, inner), pending)),
+                Some(Pending::Left(_, _)) | Some(Pending::Not(_)) | None => Err(Refusal::Syntax),
             }
         }
         Token::Number(_)
@@ -198,31 +201,31 @@ fn on_have(alloc: Global, token: &Token, e: Expr, frames: Vec<Frame>) -> Result<
 }
 
 /// Takes the next token of an expression.
-#[tactic(auto, unfolding(contract_grammar::specs::Frames::step))]
-pub fn step(alloc: Global, partial: Partial, at: u32, token: &Token) -> Result<Partial, Refusal>
-    ensures { Steps result (step (state partial) at token.now) }
+#[tactic(auto, unfolding(contract_grammar::specs::Expressions::taken))]
+pub fn take(alloc: Global, partial: Partial, at: u32, token: &Token) -> Result<Partial, Refusal>
+    ensures { Steps result (taken (partial_of partial) at token.now) }
 {
-    let Partial { operand, frames } = partial;
+    let Partial { operand, pending } = partial;
     match operand {
-        None => on_want(at, token, frames),
-        Some(e) => on_have(alloc, token, e, frames),
+        None => on_want(at, token, pending),
+        Some(e) => on_have(alloc, token, e, pending),
     }
 }
 
 /// The expression at its end, or none where it can't end here.
-#[tactic(auto, unfolding(contract_grammar::specs::Frames::ended))]
+#[tactic(auto, unfolding(contract_grammar::specs::Expressions::ended))]
 pub fn end(alloc: Global, partial: Partial) -> Result<Option<Expr>, OutOfMemory>
-    ensures { IfOk result (λ o. option_map tree o ≡ ended (state partial)) }
+    ensures { IfOk result (λ o. option_map tree o ≡ ended (partial_of partial)) }
 {
     let Partial {
         operand,
-        mut frames,
+        mut pending,
     } = partial;
     let Some(operand) = operand else {
         return Ok(None);
     };
-    let e = fold(alloc, 0, operand, &mut frames)?;
-    if frames.is_empty() {
+    let e = fold(alloc, 0, operand, &mut pending)?;
+    if pending.is_empty() {
         Ok(Some(e))
     } else {
         Ok(None)

@@ -9,8 +9,6 @@ mod heads;
 mod reader;
 mod state;
 mod statements;
-#[cfg(test)]
-mod tests;
 
 pub use contract_grammar::{
     Expr, Head, Operation, Operations, Operator, Param, ParamKind, Params, Stmt, Stmts,

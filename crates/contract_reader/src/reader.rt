@@ -6,7 +6,7 @@ ghost use Rattle.contract_grammar.specs.Modes.{advance, at_end};
 ghost use Rattle.contract_grammar.specs.Limits.{IsWithinLimits};
 ghost use Rattle.contract_grammar.specs.Reading.{ending, reading};
 ghost use Rattle.contract_reader.specs.Views.{at_of, Goes};
-ghost use Rattle.contract_reader.specs.Exact.{Gives, HasFault};
+ghost use Rattle.contract_reader.specs.Exact.{GivesReading, HasReadFault};
 
 use crate::chain::ends_chain;
 use crate::counts::{Counts, count, passes};
@@ -19,7 +19,7 @@ use txn_types::GrowingList;
 
 /// Takes the next token.
 #[tactic(auto, unfolding(contract_grammar::specs::Modes::advance))]
-fn step(alloc: Global, mode: Mode, nest: &mut Nest, placed: &Placed) -> Result<Mode, Refusal>
+fn advance(alloc: Global, mode: Mode, nest: &mut Nest, placed: &Placed) -> Result<Mode, Refusal>
     ensures { Goes result nest.new (advance (at_of mode nest.old) placed.now) }
 {
     let at = placed.span.start;
@@ -48,7 +48,7 @@ fn step(alloc: Global, mode: Mode, nest: &mut Nest, placed: &Placed) -> Result<M
 /// The operations at the end of a text of this length.
 #[tactic(auto, unfolding(contract_grammar::specs::Modes::at_end))]
 fn end(mode: Mode, nest: Nest, len: u32) -> Result<Operations, ReadFault>
-    ensures { Gives result (ending len (at_end (at_of mode nest))) }
+    ensures { GivesReading result (ending len (at_end (at_of mode nest))) }
 {
     let Nest { blocks: _, done } = nest;
     match mode {
@@ -66,7 +66,7 @@ fn end(mode: Mode, nest: Nest, len: u32) -> Result<Operations, ReadFault>
 /// The operations of a contract's text.
 fn read_exactly(alloc: Global, text: &[u8]) -> Result<Operations, ReadFault>
     requires { length text.now ≤ 65536 }
-    ensures { Gives result (reading text.now) }
+    ensures { GivesReading result (reading text.now) }
 {
     let Ok(all) = tokens(alloc, text) else {
         return Err(ReadFault::OutOfMemory);
@@ -80,7 +80,7 @@ fn read_exactly(alloc: Global, text: &[u8]) -> Result<Operations, ReadFault>
     for placed in all.as_slice() {
         let at = placed.span.start;
         let over = passes(&counts, placed);
-        mode = match step(alloc, mode, &mut nest, placed) {
+        mode = match advance(alloc, mode, &mut nest, placed) {
             Ok(next) => next,
             Err(Refusal::Syntax) => return Err(ReadFault::Syntax { at }),
             Err(Refusal::OutOfMemory) => return Err(ReadFault::OutOfMemory),
@@ -99,11 +99,11 @@ fn read_exactly(alloc: Global, text: &[u8]) -> Result<Operations, ReadFault>
 pub fn read(alloc: Global, text: &[u8]) -> Result<Operations, ReadFault>
     requires { length text.now ≤ 65536 }
     // The reading of the text, unless memory runs out.
-    ensures exact { Gives result (reading text.now) }
+    ensures exact { GivesReading result (reading text.now) }
     // What is read is spelled so, within the limits.
     ensures contract { IfOk result (λ ops. SpellsContract (tokens text.now) (operations ops) × IsWithinLimits (tokens text.now)) }
     // A fault is the first one, at its byte.
-    ensures fault { IfErr result (HasFault text.now) }
+    ensures fault { IfErr result (HasReadFault text.now) }
 {
     read_exactly(alloc, text)
 }

@@ -7,7 +7,7 @@ use txn_types::{Name, OutOfMemory};
 
 /// What is open in an expression: a parenthesis, by its byte, or what waits for its right operand.
 #[derive(Drop)]
-pub enum Frame {
+pub enum Pending {
     Group(u32),
     Left(Operator, Expr),
     Not(u32),
@@ -17,7 +17,7 @@ pub enum Frame {
 #[derive(Drop)]
 pub struct Partial {
     pub operand: Option<Expr>,
-    pub frames: Vec<Frame>,
+    pub pending: Vec<Pending>,
 }
 
 /// What an expression is for.
@@ -40,7 +40,7 @@ pub enum Purpose {
 
 /// An open block, with its statements so far.
 #[derive(Drop)]
-pub struct Open {
+pub struct Unclosed {
     pub purpose: Purpose,
     pub stmts: Stmts,
 }
@@ -68,7 +68,7 @@ pub enum Mode {
 /// The open blocks, of which the innermost comes last, and the operations so far.
 #[derive(Drop)]
 pub struct Nest {
-    pub blocks: Vec<Open>,
+    pub blocks: Vec<Unclosed>,
     pub done: Operations,
 }
 

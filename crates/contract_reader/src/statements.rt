@@ -1,31 +1,31 @@
 ghost use Rattle.std.specs.Prelude.{◌≡◌, [], ◌∷◌, Some, OnOk, option_map};
 ghost use Rattle.contract_grammar.specs.Tree.{tree, nil, statement, statements, operations};
-ghost use Rattle.contract_grammar.specs.Frames.{want};
-ghost use Rattle.contract_grammar.specs.Modes.{at, at_stmt, in_expr, block, put, closed, on_block, on_stmt, on_let, on_equals, on_count, on_semicolon, on_brace, on_expr, on_else};
-ghost use Rattle.contract_reader.specs.Views.{blocks_of, mode_of, use_of, purpose_of, state, Goes};
+ghost use Rattle.contract_grammar.specs.Expressions.{want};
+ghost use Rattle.contract_grammar.specs.Modes.{at, at_stmt, in_expr, unclosed, with_stmt, closed, on_block, on_stmt, on_let, on_equals, on_count, on_semicolon, on_brace, on_expr, on_else};
+ghost use Rattle.contract_reader.specs.Views.{blocks_of, mode_of, use_of, purpose_of, partial_of, Goes};
 
-use crate::expression::{end, step};
-use crate::state::{Mode, Nest, Open, Partial, Purpose, Refusal, Use};
+use crate::expression::{end, take};
+use crate::state::{Mode, Nest, Partial, Purpose, Refusal, Unclosed, Use};
 use contract_grammar::{Expr, Mark, Operation, Stmt, Stmts, Token};
 use std::alloc::Global;
 use txn_types::OutOfMemory;
 
 /// Puts a statement at the end of the innermost block.
-fn put(alloc: Global, stmt: Stmt, blocks: &mut Vec<Open>) -> Result<(), OutOfMemory>
-    ensures { OnOk result (blocks_of blocks.new.items ≡ put (statement stmt) (blocks_of blocks.old.items)) }
+fn add_stmt(alloc: Global, stmt: Stmt, blocks: &mut Vec<Unclosed>) -> Result<(), OutOfMemory>
+    ensures { OnOk result (blocks_of blocks.new.items ≡ with_stmt (statement stmt) (blocks_of blocks.old.items)) }
 {
-    if let Some(Open { purpose, stmts }) = blocks.pop() {
+    if let Some(Unclosed { purpose, stmts }) = blocks.pop() {
         let stmts = Stmts::Then(Box::new(alloc, stmts)?, Box::new(alloc, stmt)?);
-        blocks.push(Open { purpose, stmts })?;
+        blocks.push(Unclosed { purpose, stmts })?;
     }
     Ok(())
 }
 
 /// Puts a statement, behind which another one can come.
 fn put_stmt(alloc: Global, stmt: Stmt, nest: &mut Nest) -> Result<Mode, Refusal>
-    ensures { Goes result nest.new (Some (at at_stmt (put (statement stmt) (blocks_of nest.old.blocks.items)) (operations nest.old.done))) }
+    ensures { Goes result nest.new (Some (at at_stmt (with_stmt (statement stmt) (blocks_of nest.old.blocks.items)) (operations nest.old.done))) }
 {
-    put(alloc, stmt, &mut nest.blocks)?;
+    add_stmt(alloc, stmt, &mut nest.blocks)?;
     Ok(Mode::Stmt)
 }
 
@@ -33,7 +33,7 @@ fn put_stmt(alloc: Global, stmt: Stmt, nest: &mut Nest) -> Result<Mode, Refusal>
 fn close(alloc: Global, nest: &mut Nest) -> Result<Mode, Refusal>
     ensures { Goes result nest.new (closed (blocks_of nest.old.blocks.items) (operations nest.old.done)) }
 {
-    let Some(Open { purpose, stmts }) = nest.blocks.pop() else {
+    let Some(Unclosed { purpose, stmts }) = nest.blocks.pop() else {
         return Err(Refusal::Syntax);
     };
     match purpose {
@@ -55,9 +55,9 @@ fn close(alloc: Global, nest: &mut Nest) -> Result<Mode, Refusal>
 
 /// Opens a block.
 fn open(purpose: Purpose, nest: &mut Nest) -> Result<Mode, Refusal>
-    ensures { Goes result nest.new (Some (at at_stmt (block (purpose_of purpose) nil ∷ blocks_of nest.old.blocks.items) (operations nest.old.done))) }
+    ensures { Goes result nest.new (Some (at at_stmt (unclosed (purpose_of purpose) nil ∷ blocks_of nest.old.blocks.items) (operations nest.old.done))) }
 {
-    nest.blocks.push(Open {
+    nest.blocks.push(Unclosed {
         purpose,
         stmts: Stmts::Empty,
     })?;
@@ -82,7 +82,7 @@ fn begin(alloc: Global, purpose: Use) -> Mode
         purpose,
         Partial {
             operand: None,
-            frames: Vec::new(alloc),
+            pending: Vec::new(alloc),
         },
     )
 }
@@ -174,7 +174,7 @@ pub fn on_expr(
     token: &Token,
     nest: &mut Nest,
 ) -> Result<Mode, Refusal>
-    ensures { Goes result nest.new (on_expr (use_of purpose) (state partial) at token.now (blocks_of nest.old.blocks.items) (operations nest.old.done)) }
+    ensures { Goes result nest.new (on_expr (use_of purpose) (partial_of partial) at token.now (blocks_of nest.old.blocks.items) (operations nest.old.done)) }
 {
     match token {
         Token::Fixed(Mark::Semicolon) => {
@@ -185,7 +185,7 @@ pub fn on_expr(
             let e = end(alloc, partial)?;
             on_brace(purpose, e, nest)
         }
-        _ => Ok(Mode::Expr(purpose, step(alloc, partial, at, token)?)),
+        _ => Ok(Mode::Expr(purpose, take(alloc, partial, at, token)?)),
     }
 }
 
@@ -204,7 +204,7 @@ pub fn on_else(
         Token::Fixed(Mark::WordElse) => Ok(Mode::Block(Purpose::Second(e, yes))),
         _ => {
             let choice = Stmt::If(e, Box::new(alloc, yes)?, Box::new(alloc, Stmts::Empty)?);
-            put(alloc, choice, &mut nest.blocks)?;
+            add_stmt(alloc, choice, &mut nest.blocks)?;
             on_stmt(alloc, at, token, nest)
         }
     }

@@ -1,10 +1,11 @@
--- The operations of an accepted text are lawful.
+-- The operations of a contract's text are lawful.
 use Rattle.std.proofs.Common.{◌≡◌, ◌≢◌, ◌==◌, ◌||◌, codes, min, ℕ, zero, suc, ◌+◌, ◌-◌, ◌<◌, Bool, true, false, cond, List, [], ◌∷◌, ◌++◌, length, map, Result, Ok, Err, IfOk, refl, arith, if◌then◌else◌}
 use Rattle.std.specs.List.{All}
 use Rattle.std.proofs.lemmas.Bool.Decides.{nat_tests}
 use Rattle.std.proofs.lemmas.List.{length-map}
 use Rattle.std.proofs.lemmas.List.Elements.{All-append, All-cons, All-map, All-nil}
 use Rattle.std.proofs.lemmas.List.Sums.{take_while-cons}
+use Rattle.txn_types.specs.Values.{max_value}
 use Rattle.txn_types.specs.Names.{BeginsLower, IsName, IsNameByte}
 use Rattle.contract_grammar.specs.declared.tree.Head.{Head}
 use Rattle.contract_grammar.specs.declared.token.Mark.TheVariants.{WordOp, WordLet, WordRequire, WordIf, WordElse, WordRepeat, WordRecord, WordNumber, OpenBlock, CloseBlock, Colon, Comma, Semicolon, Becomes}
@@ -14,7 +15,7 @@ use Rattle.std.specs.Str.{bytes_eq}
 use Rattle.contract_grammar.specs.declared.token.Token.{Token}
 use Rattle.contract_grammar.specs.declared.token.Token.TheVariants.{Number, Named, Infix, Not, Open, Close, Fixed, Bad}
 use Rattle.contract_grammar.specs.Tree as raw
-use Rattle.contract_grammar.specs.Lexer.{is_padded, begins, decimal, is_letter, is_digit, is_name_byte, is_space, name_at, number_of, named, word_in_expression, word_in_block, word_of, joined, single, sign_at, token_at, placed, lexed, tokens}
+use Rattle.contract_grammar.specs.Lexer.{is_padded, begins, decimal, is_letter, is_digit, is_name_byte, is_space, name_at, number_of, named, word_in_expression, word_in_block, word_of, with_equals, single, sign_at, token_at, placed, lexed, tokens}
 use Rattle.contract_grammar.specs.Grammar.{SpellsHead, without, with, SpellsOp, of_op, SpellsOps, no_ops, more_ops}
 use Rattle.contract_grammar.proofs.Lexing.{is_name, all_names}
 use Rattle.oxii_defs.specs.Syntax.{Op}
@@ -22,9 +23,10 @@ use Rattle.txn_core.specs.Meant.{op_of}
 use Rattle.contract_text.specs.declared.faults.Contract.{Contract}
 use Rattle.contract_text.specs.declared.faults.TextFault.{TextFault}
 use Rattle.contract_text.specs.Typed.{typed_op}
-use Rattle.contract_text.specs.Verdict.{accepted, verdict, Gives}
+use Rattle.contract_text.specs.TextMeaning.{IsContract}
+use Rattle.contract_text.specs.Verdict.{verdict, GivesVerdict}
 use Rattle.contract_text.specs.Laws.{AreLawfulOps}
-use Rattle.contract_text.proofs.Judged.{verdict_contract, verdict_fine}
+use Rattle.contract_text.proofs.Judged.{contract_of, contract_fine}
 
 -- ---- the names of tokens
 
@@ -76,10 +78,10 @@ read t n h = record { token = record { name = h } }
 
 number_names : (digits behind : List ℕ) → IsRead (number_of digits behind)
 unfolding number_of
-number_names digits behind = either_read (is_padded digits || begins is_name_byte behind) (read Bad 1 tt) (read (Number (min (decimal 0 digits) 4611686018427387904)) (length digits) tt)
+number_names digits behind = either_read (is_padded digits || begins is_name_byte behind) (read Bad 1 tt) (read (Number (min (decimal 0 digits) (max_value + 1))) (length digits) tt)
 
-joined_names : (behind : List ℕ) (s t : Token) → NamesName s → NamesName t → IsRead (joined behind s t)
-joined_names behind s t h k = either_read (begins (λ b. b == 61) behind) (read s 2 h) (read t 1 k)
+with_equals_names : (behind : List ℕ) (s t : Token) → NamesName s → NamesName t → IsRead (with_equals behind s t)
+with_equals_names behind s t h k = either_read (begins (λ b. b == 61) behind) (read s 2 h) (read t 1 k)
 
 single_names : (b : ℕ) → IsNamed (single b)
 unfolding single
@@ -87,8 +89,8 @@ single_names b = unless (b == 40) Open tt (unless (b == 41) Close tt (unless (b 
 
 sign_names : (b : ℕ) (behind : List ℕ) → IsRead (sign_at b behind)
 unfolding sign_at
-sign_names b behind = either_read (b == 61) (joined_names behind (Infix Equal) (Fixed Becomes) tt tt) (either_read (b == 33) (joined_names behind (Infix NotEqual) Bad tt tt)
-    (either_read (b == 60) (joined_names behind (Infix LessEqual) (Infix Less) tt tt) (either_read (b == 62) (joined_names behind (Infix GreaterEqual) (Infix Greater) tt tt) (record { token = single_names b }))))
+sign_names b behind = either_read (b == 61) (with_equals_names behind (Infix Equal) (Fixed Becomes) tt tt) (either_read (b == 33) (with_equals_names behind (Infix NotEqual) Bad tt tt)
+    (either_read (b == 60) (with_equals_names behind (Infix LessEqual) (Infix Less) tt tt) (either_read (b == 62) (with_equals_names behind (Infix GreaterEqual) (Infix Greater) tt tt) (record { token = single_names b }))))
 
 letter_names : (b : ℕ) (behind : List ℕ) → is_letter b ≡ true → IsNamed (word_of (name_at (b ∷ behind)))
 letter_names b behind h =
@@ -149,10 +151,9 @@ some_operations (o ∷ os) h = omega arith
 
 -- ---- what is accepted
 
-pub accepted_lawful : (text : List ℕ) (ops : List Op) → verdict text ≡ accepted ops → AreLawfulOps ops
-accepted_lawful text ops is =
-    let contract = verdict_contract text ops is in
-    let fine = verdict_fine text ops is in
+pub accepted_lawful : (text : List ℕ) (ops : List Op) → IsContract text ops → AreLawfulOps ops
+accepted_lawful text ops contract =
+    let fine = contract_fine text ops contract in
     record {
       count = (rw (contract.stands, length-map contract.operations typed_op) (some_operations contract.operations contract.spelled.1), fine.count);
       named = rw contract.stands (typed_named contract.operations (ops_named (tokens text) contract.operations contract.spelled.0 (lexed_named 0 0 text)));
@@ -160,6 +161,6 @@ accepted_lawful text ops is =
       fine = fine.each;
     }
 
-pub given_lawful : (text : List ℕ) (answer : Result Contract TextFault) → Gives answer (verdict text) → IfOk answer (λ contract. AreLawfulOps (map op_of contract.ops))
-given_lawful text (Ok contract) h = accepted_lawful text (map op_of contract.ops) h
+pub given_lawful : (text : List ℕ) (answer : Result Contract TextFault) → GivesVerdict answer (verdict text) → IfOk answer (λ contract. AreLawfulOps (map op_of contract.ops))
+given_lawful text (Ok contract) h = accepted_lawful text (map op_of contract.ops) (contract_of text _ h)
 given_lawful text (Err f) h = tt

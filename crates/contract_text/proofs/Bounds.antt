@@ -5,9 +5,10 @@ use Rattle.std.proofs.lemmas.List.{append-nil}
 use Rattle.std.proofs.lemmas.List.Elements.{All-append}
 use Rattle.std.proofs.lemmas.Bool.{or_parts}
 use Rattle.std.proofs.lemmas.Bool.Decides.{nat_tests}
+use Rattle.txn_types.specs.Values.{max_turns}
 use Rattle.contract_grammar.specs.declared.token.Mark.TheVariants.{WordOp, WordLet, WordRequire, WordIf, WordElse, WordRepeat, OpenBlock, CloseBlock, Comma, Semicolon, Becomes}
 use Rattle.contract_grammar.specs.declared.token.Token.TheVariants.{Number, Named, Open, Close}
-use Rattle.contract_grammar.specs.declared.token.Span.{Span}
+use Rattle.contract_grammar.specs.declared.token.Extent.{Extent}
 use Rattle.contract_grammar.specs.declared.token.Placed.{Placed}
 use Rattle.contract_grammar.specs.declared.tree.Param.{Param}
 use Rattle.contract_grammar.specs.declared.tree.Head.{Head}
@@ -33,18 +34,18 @@ ends_same c d locals turns rest e few s o = rw (append-nil locals) (record { sco
 
 -- ---- `let`
 
-let_scopes : (c : Tally) (w : Span) (turns n : ℕ) (rest : List Scope) → c.scopes ≡ scope turns n ∷ rest → (tallied c (fixed w WordLet)).scopes ≡ scope turns (n + 1) ∷ rest
+let_scopes : (c : Tally) (w : Extent) (turns n : ℕ) (rest : List Scope) → c.scopes ≡ scope turns n ∷ rest → (tallied c (fixed w WordLet)).scopes ≡ scope turns (n + 1) ∷ rest
 unfolding tallied
 let_scopes c w turns n rest e = ap with_local e
 
-let_ops : (c : Tally) (w : Span) → (tallied c (fixed w WordLet)).ops ≡ c.ops
+let_ops : (c : Tally) (w : Extent) → (tallied c (fixed w WordLet)).ops ≡ c.ops
 unfolding tallied
 let_ops c w = refl
 
 below : (n m : ℕ) → m ≡ n + 1 → nat_lt 32 m ≡ false → n < 32
 below n m e h = grind (arith, nat_tests)
 
-let_few : (c : Tally) (w v : Span) (x : List ℕ) (long : Bool) (n : ℕ) → locals_in (tallied c (fixed w WordLet)).scopes ≡ n + 1
+let_few : (c : Tally) (w v : Extent) (x : List ℕ) (long : Bool) (n : ℕ) → locals_in (tallied c (fixed w WordLet)).scopes ≡ n + 1
     → passes (tallied c (fixed w WordLet)) (tok v (Named x long)) ≡ false → n < 32
 unfolding tallied
 let_few c w v x long n e h = below n _ e (kept (tallied c (fixed w WordLet)) (tok v (Named x long)) h).further
@@ -63,14 +64,14 @@ let_ends c d e locals x turns rest s o few stays =
 at_least : (m n : ℕ) → nat_lt m n ≡ false → n ≤ m
 at_least m n h = grind (arith, nat_tests)
 
-count_fine : (n turns product : ℕ) → product ≡ turns → (nat_lt n 1 || (nat_lt 64 n || nat_lt 1024 (n * product))) ≡ false → (0 < n) × (n ≤ 64) × (turns * n ≤ 1024)
+count_fine : (n turns product : ℕ) → product ≡ turns → (nat_lt n 1 || (nat_lt 64 n || nat_lt max_turns (n * product))) ≡ false → (0 < n) × (n ≤ 64) × (turns * n ≤ max_turns)
 count_fine n turns product e h =
-    let a = or_parts (nat_lt n 1) (nat_lt 64 n || nat_lt 1024 (n * product)) h in
-    let b = or_parts (nat_lt 64 n) (nat_lt 1024 (n * product)) a.1 in
+    let a = or_parts (nat_lt n 1) (nat_lt 64 n || nat_lt max_turns (n * product)) h in
+    let b = or_parts (nat_lt 64 n) (nat_lt max_turns (n * product)) a.1 in
     let is : turns * n ≡ n * product = mul_comm turns n ∙ ap (λ p. n * p) (sym e) in
-    (at_least n 1 a.0, at_least 64 n b.0, at_least 1024 (turns * n) (ap (nat_lt 1024) is ∙ b.1))
+    (at_least n 1 a.0, at_least 64 n b.0, at_least max_turns (turns * n) (ap (nat_lt max_turns) is ∙ b.1))
 
-repeat_fine : (c : Tally) (w v : Span) (n turns : ℕ) → product_in c.scopes ≡ turns → passes (tallied c (fixed w WordRepeat)) (tok v (Number n)) ≡ false → (0 < n) × (n ≤ 64) × (turns * n ≤ 1024)
+repeat_fine : (c : Tally) (w v : Extent) (n turns : ℕ) → product_in c.scopes ≡ turns → passes (tallied c (fixed w WordRepeat)) (tok v (Number n)) ≡ false → (0 < n) × (n ≤ 64) × (turns * n ≤ max_turns)
 unfolding tallied
 repeat_fine c w v n turns e h = count_fine n turns (product_in c.scopes) e (kept (tallied c (fixed w WordRepeat)) (tok v (Number n)) h).count
 
@@ -80,7 +81,7 @@ record Repeats (c d : Tally) (n : ℕ) : Type 0 where
   ops : d.ops ≡ c.ops
   factor : factor d.previous ≡ n
 
-repeats : (c : Tally) (w v : Span) (n : ℕ) → Repeats c (tallied (tallied c (fixed w WordRepeat)) (tok v (Number n))) n
+repeats : (c : Tally) (w v : Extent) (n : ℕ) → Repeats c (tallied (tallied c (fixed w WordRepeat)) (tok v (Number n))) n
 unfolding tallied
 repeats c w v n = record { scopes = refl; ops = refl; factor = refl }
 
@@ -95,27 +96,27 @@ record Enters (c : Tally) (locals : List (List ℕ)) (turns : ℕ) : Type 0 wher
 plain_enters : (c : Tally) (locals : List (List ℕ)) (turns : ℕ) (rest : List Scope) → c.previous ≡ plain → c.scopes ≡ scope turns (length locals) ∷ rest → length locals ≤ 32 → Enters c locals turns
 plain_enters c locals turns rest p e few = record { product = rw (p, e) (omega arith); visible = ap locals_in e; few = few }
 
-open_scopes : (c : Tally) (w : Span) → (tallied c (fixed w OpenBlock)).scopes ≡ scope (factor c.previous * product_in c.scopes) (locals_in c.scopes) ∷ c.scopes
+open_scopes : (c : Tally) (w : Extent) → (tallied c (fixed w OpenBlock)).scopes ≡ scope (factor c.previous * product_in c.scopes) (locals_in c.scopes) ∷ c.scopes
 unfolding tallied
 open_scopes c w = refl
 
-open_ops : (c : Tally) (w : Span) → (tallied c (fixed w OpenBlock)).ops ≡ c.ops
+open_ops : (c : Tally) (w : Extent) → (tallied c (fixed w OpenBlock)).ops ≡ c.ops
 unfolding tallied
 open_ops c w = refl
 
-close_scopes : (c : Tally) (w : Span) → (tallied c (fixed w CloseBlock)).scopes ≡ without_first c.scopes
+close_scopes : (c : Tally) (w : Extent) → (tallied c (fixed w CloseBlock)).scopes ≡ without_first c.scopes
 unfolding tallied
 close_scopes c w = refl
 
-close_ops : (c : Tally) (w : Span) → (tallied c (fixed w CloseBlock)).ops ≡ c.ops
+close_ops : (c : Tally) (w : Extent) → (tallied c (fixed w CloseBlock)).ops ≡ c.ops
 unfolding tallied
 close_ops c w = refl
 
-if_plain : (c : Tally) (w : Span) → (tallied c (fixed w WordIf)).previous ≡ plain
+if_plain : (c : Tally) (w : Extent) → (tallied c (fixed w WordIf)).previous ≡ plain
 unfolding tallied
 if_plain c w = refl
 
-else_plain : (c : Tally) (w : Span) → (tallied c (fixed w WordElse)).previous ≡ plain
+else_plain : (c : Tally) (w : Extent) → (tallied c (fixed w WordElse)).previous ≡ plain
 unfolding tallied
 else_plain c w = refl
 
@@ -222,18 +223,18 @@ unfolding tallied
 param_keeps of_record c = record { scopes = refl; ops = refl; commas = refl }
 param_keeps of_amount c = record { scopes = refl; ops = refl; commas = refl }
 
-comma_keeps : (c : Tally) (w : Span) → ((tallied c (fixed w Comma)).scopes ≡ c.scopes) × ((tallied c (fixed w Comma)).ops ≡ c.ops) × ((tallied c (fixed w Comma)).commas ≡ c.commas + 1)
+comma_keeps : (c : Tally) (w : Extent) → ((tallied c (fixed w Comma)).scopes ≡ c.scopes) × ((tallied c (fixed w Comma)).ops ≡ c.ops) × ((tallied c (fixed w Comma)).commas ≡ c.commas + 1)
 unfolding tallied
 comma_keeps c w = (refl, refl, refl)
 
 few_commas : (n : ℕ) → nat_le 16 n ≡ false → n < 16
 few_commas n h = grind (arith, nat_tests)
 
-name_room : (c : Tally) (w v : Span) (x : List ℕ) (long : Bool) → passes (tallied c (fixed w Comma)) (tok v (Named x long)) ≡ false → (tallied c (fixed w Comma)).commas < 16
+name_room : (c : Tally) (w v : Extent) (x : List ℕ) (long : Bool) → passes (tallied c (fixed w Comma)) (tok v (Named x long)) ≡ false → (tallied c (fixed w Comma)).commas < 16
 unfolding tallied
 name_room c w v x long h = few_commas _ (kept (tallied c (fixed w Comma)) (tok v (Named x long)) h).further
 
-param_room : {ts : List Placed} {p : Param} → SpellsParam ts p → (c : Tally) (w : Span) → Quiet (tallied c (fixed w Comma)) ts → (tallied c (fixed w Comma)).commas < 16
+param_room : {ts : List Placed} {p : Param} → SpellsParam ts p → (c : Tally) (w : Extent) → Quiet (tallied c (fixed w Comma)) ts → (tallied c (fixed w Comma)).commas < 16
 param_room (of_record {w = v} {x = x} {long = long}) c w q = name_room c w v x long q.0
 param_room (of_amount {w = v} {x = x} {long = long}) c w q = name_room c w v x long q.0
 
@@ -269,14 +270,14 @@ record Begins (c d : Tally) (h : Head) : Type 0 where
   params : length h.params ≤ 16
 
 -- the tally behind the parenthesis before the parameters
-abbrev opened : Tally → Span → Span → Span → List ℕ → Bool → Tally
+abbrev opened : Tally → Extent → Extent → Extent → List ℕ → Bool → Tally
 opened c w v u x long = tallied (tallied (tallied c (fixed w WordOp)) (tok v (Named x long))) (tok u Open)
 
-opened_keeps : (c : Tally) (w v u : Span) (x : List ℕ) (long : Bool) → ((opened c w v u x long).scopes ≡ c.scopes) × ((opened c w v u x long).ops ≡ c.ops + 1) × ((opened c w v u x long).commas ≡ 0)
+opened_keeps : (c : Tally) (w v u : Extent) (x : List ℕ) (long : Bool) → ((opened c w v u x long).scopes ≡ c.scopes) × ((opened c w v u x long).ops ≡ c.ops + 1) × ((opened c w v u x long).commas ≡ 0)
 unfolding tallied
 opened_keeps c w v u x long = (refl, refl, refl)
 
-closed_keeps : (c : Tally) (w : Span) → ((tallied c (tok w Close)).scopes ≡ c.scopes) × ((tallied c (tok w Close)).ops ≡ c.ops) × ((tallied c (tok w Close)).previous ≡ plain)
+closed_keeps : (c : Tally) (w : Extent) → ((tallied c (tok w Close)).scopes ≡ c.scopes) × ((tallied c (tok w Close)).ops ≡ c.ops) × ((tallied c (tok w Close)).previous ≡ plain)
 unfolding tallied
 closed_keeps c w = (refl, refl, refl)
 
@@ -292,7 +293,7 @@ head_begins (with {w = w} {v = v} {u = u} {x = x} {long = long} {xs = xs} z rs) 
     let k = closed_keeps (past d xs) z in
     rw (past_both d xs (tok z Close ∷ [])) (record { scopes = k.0 ∙ ps.scopes ∙ o.0; ops = k.1 ∙ ps.ops ∙ o.1; previous = k.2; params = ps.few })
 
-op_room : (c : Tally) (w : Span) → passes c (fixed w WordOp) ≡ false → c.ops < 16
+op_room : (c : Tally) (w : Extent) → passes c (fixed w WordOp) ≡ false → c.ops < 16
 op_room c w h = few_commas _ (kept c (fixed w WordOp) h).op
 
 head_room : {ts : List Placed} {h : Head} → SpellsHead ts h → (c : Tally) → Quiet c ts → c.ops < 16

@@ -49,9 +49,9 @@ module _ (params : List Param) where
   there_fine locals turns (symbol.Num i) h = h
   there_fine locals turns (symbol.Local i) h = h
 
-  name_fine : (locals : List (List ℕ)) (turns at : ℕ) (x : List ℕ) (o : Option Symbol) → symbol_of params locals x ≡ o → name_flaws o value.Number at ≡ [] → IsFineExpr (seen locals turns) (used o)
-  name_fine locals turns at x None is e = absurd (not_empty _ _ e)
-  name_fine locals turns at x (Some s) is e = there_fine locals turns s (found_there params locals x s is)
+  name_fine : (locals : List (List ℕ)) (turns at own : ℕ) (x : List ℕ) (o : Option Symbol) → symbol_of params locals x ≡ o → name_flaws o value.Number at own ≡ [] → IsFineExpr (seen locals turns) (used o)
+  name_fine locals turns at own x None is e = absurd (not_empty _ _ e)
+  name_fine locals turns at own x (Some s) is e = there_fine locals turns s (found_there params locals x s is)
 
   -- an operator that gives a number, and has numbers
   record IsCalculation (op : Operator) : Type 0 where
@@ -79,7 +79,7 @@ module _ (params : List Param) where
 
   expr_fine : (locals : List (List ℕ)) (turns : ℕ) (e : Tree) → expr_flaws params locals value.Number e ≡ [] → IsSmall e → IsFineExpr (seen locals turns) (typed_expr params locals e)
   expr_fine locals turns (number at n) none small = small
-  expr_fine locals turns (name at x) none small = name_fine locals turns at x (symbol_of params locals x) refl none
+  expr_fine locals turns (name at own x) none small = name_fine locals turns at own x (symbol_of params locals x) refl none
   expr_fine locals turns (negation at e) none small = absurd (not_empty _ _ none)
   expr_fine locals turns (binary at op a b) none small =
       let parts = empty_parts (kind_flaws (result_kind op) value.Number at) _ none in
@@ -95,13 +95,13 @@ module _ (params : List Param) where
       let both = empty_parts (expr_flaws params locals value.Number a) (expr_flaws params locals value.Number b) none in
       (expr_fine locals turns a both.0 small.0, expr_fine locals turns b both.1 small.1)
 
-  name_is_number : (o : Option Symbol) (at : ℕ) → name_flaws o value.Truth at ≡ [] → ⊥
-  name_is_number None at e = not_empty _ _ e
-  name_is_number (Some s) at e = not_empty _ _ e
+  name_is_number : (o : Option Symbol) (at own : ℕ) → name_flaws o value.Truth at own ≡ [] → ⊥
+  name_is_number None at own e = not_empty _ _ e
+  name_is_number (Some s) at own e = not_empty _ _ e
 
   cond_fine : (locals : List (List ℕ)) (turns : ℕ) (e : Tree) → expr_flaws params locals value.Truth e ≡ [] → IsSmall e → IsFineCond (seen locals turns) (typed_cond params locals e)
   cond_fine locals turns (number at n) none small = absurd (not_empty _ _ none)
-  cond_fine locals turns (name at x) none small = absurd (name_is_number (symbol_of params locals x) at none)
+  cond_fine locals turns (name at own x) none small = absurd (name_is_number (symbol_of params locals x) at own none)
   cond_fine locals turns (negation at e) none small = cond_fine locals turns e none small
   cond_fine locals turns (binary at Or a b) none small =
       let both = empty_parts (expr_flaws params locals value.Truth a) (expr_flaws params locals value.Truth b) none in

@@ -1,8 +1,11 @@
 -- The flaw that is noted is the first one.
-use Rattle.std.proofs.Common.{◌≡◌, ◌⊎◌, inl, inr, ℕ, suc, ◌<◌, Bool, true, false, List, [], ◌∷◌, Option, Some, None, Contains, refl, sym, ◌∙◌, subst, arith, fold, if◌then◌else◌}
+use Rattle.std.proofs.Common.{◌≡◌, ◌⊎◌, inl, inr, ℕ, suc, ◌<◌, Bool, true, false, List, [], ◌∷◌, Option, Some, None, Contains, refl, sym, ap, ◌∙◌, subst, arith, fold, if◌then◌else◌}
 use Rattle.std.specs.List.{All}
 use Rattle.std.specs.Bool.{Decides}
 use Rattle.std.proofs.lemmas.Bool.Decides.{Decides-or, Decides-and, Decides-ltb, Decides-eqb}
+use Rattle.std.proofs.lemmas.List.Elements.{All-contains}
+use Rattle.contract_text.specs.declared.flaws.FlawKind.{FlawKind}
+use Rattle.contract_text.specs.declared.flaws.FlawKind.TheVariants.{Double, UnknownName, Kind}
 use Rattle.contract_text.specs.declared.flaws.Flaw.{Flaw}
 use Rattle.contract_text.specs.Flaws.{rank, is_before, earlier, noted, IsFirst}
 use Rattle.contract_text.proofs.Fine.{all_more}
@@ -95,3 +98,59 @@ first_noted f [] e = absurd cc
 first_noted f (g ∷ fs) e =
     let l = least g f fs e in
     (elim l.one_of [ inl is ↦ (0, omega arith, sym is) | inr h ↦ contains_more f g fs h ], all_more (λ h. is_before h f ≡ false) g fs l.front l.rest)
+
+-- ---- the first flaw is one
+
+some_stays : (best : Flaw) (fs : List Flaw) → noted (Some best) fs ≡ None → ⊥
+some_stays best [] e = cc
+some_stays best (g ∷ fs) e = elim (is_before g best) as (λ b. fold earlier (if b then Some g else Some best) fs ≡ None → ⊥) [
+  | true ↦ λ h. some_stays g fs h
+  | false ↦ λ h. some_stays best fs h
+] e
+
+none_first : (fs : List Flaw) → noted None fs ≡ None → fs ≡ []
+none_first [] e = refl
+none_first (g ∷ fs) e = absurd (some_stays g fs e)
+
+no_element : (f : Flaw) → Contains [] f → ⊥
+no_element f c = let lt = c.1 in omega (arith, lt)
+
+same_kind : (k m : FlawKind) → rank k ≡ rank m → k ≡ m
+same_kind Double Double e = refl
+same_kind Double UnknownName e = absurd (omega (arith, e))
+same_kind Double Kind e = absurd (omega (arith, e))
+same_kind UnknownName Double e = absurd (omega (arith, e))
+same_kind UnknownName UnknownName e = refl
+same_kind UnknownName Kind e = absurd (omega (arith, e))
+same_kind Kind Double e = absurd (omega (arith, e))
+same_kind Kind UnknownName e = absurd (omega (arith, e))
+same_kind Kind Kind e = refl
+
+same_rank : (f g : Flaw) → f.at ≡ g.at → (Before f g → ⊥) → (Before g f → ⊥) → rank f.kind ≡ rank g.kind
+same_rank f g same one other = elim (order (rank f.kind) (rank g.kind)) [
+  | inl lt ↦ absurd (one (inr (same, lt)))
+  | inr rest ↦ elim rest [ inl is ↦ is | inr gt ↦ absurd (other (inr (sym same, gt))) ]
+]
+
+same_place : (f g : Flaw) → (Before f g → ⊥) → (Before g f → ⊥) → f.at ≡ g.at
+same_place f g one other = elim (order f.at g.at) [
+  | inl lt ↦ absurd (one (inl lt))
+  | inr rest ↦ elim rest [ inl is ↦ is | inr gt ↦ absurd (other (inl gt)) ]
+]
+
+same_flaw : (f g : Flaw) → (Before f g → ⊥) → (Before g f → ⊥) → f ≡ g
+same_flaw f g one other =
+    let at = same_place f g one other in
+    let kind = same_kind f.kind g.kind (same_rank f g at one other) in
+    λ i. record { at = at i; kind = kind i }
+
+one_first : (f g : Flaw) (fs : List Flaw) → IsFirst f fs → IsFirst g fs → f ≡ g
+one_first f g fs h k =
+    same_flaw f g (is_not_before f g (All-contains (λ x. is_before x g ≡ false) fs f k.1 h.0)) (is_not_before g f (All-contains (λ x. is_before x f ≡ false) fs g h.1 k.0))
+
+first_is : (f : Flaw) (fs : List Flaw) (o : Option Flaw) → IsFirst f fs → noted None fs ≡ o → o ≡ Some f
+first_is f fs None h e = absurd (no_element f (subst (λ l. Contains l f) (none_first fs e) h.0))
+first_is f fs (Some g) h e = ap Some (one_first g f fs (first_noted g fs e) h)
+
+pub noted_first : (f : Flaw) (fs : List Flaw) → IsFirst f fs → noted None fs ≡ Some f
+noted_first f fs h = first_is f fs (noted None fs) h refl

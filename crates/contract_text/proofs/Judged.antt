@@ -1,5 +1,5 @@
 -- What the verdict on a text means.
-use Rattle.std.proofs.Common.{◌≡◌, ℕ, ◌*◌, ◌≤◌, List, [], ◌∷◌, ◌++◌, length, map, Option, Some, None, Result, Ok, Err, IfOk, IfErr, refl, ap, subst, arith}
+use Rattle.std.proofs.Common.{◌≡◌, ◌↔◌, ◌∙◌, ℕ, ◌*◌, ◌≤◌, List, [], ◌∷◌, ◌++◌, length, map, Option, Some, None, Result, Ok, Err, IfOk, IfErr, refl, sym, ap, subst, arith}
 use Rattle.std.specs.List.{All}
 use Rattle.std.proofs.lemmas.List.{length-map}
 use Rattle.contract_grammar.specs.declared.tree.Operation.{Operation}
@@ -8,9 +8,9 @@ use Rattle.contract_grammar.specs.Tree.{Statement, define, assign, demand, choos
 use Rattle.contract_grammar.specs.Lexer.{tokens}
 use Rattle.contract_grammar.specs.Grammar.{SpellsContract}
 use Rattle.contract_grammar.specs.Limits.{IsWithinLimits}
-use Rattle.contract_grammar.specs.Faults.{IsSyntaxFault, IsLimitFault}
-use Rattle.contract_grammar.specs.Reading.{Reading, reads, syntax_at, limit_at, reading, Means}
+use Rattle.contract_grammar.specs.Reading.{Reading, reads, syntax_at, limit_at, reading, ReadingMeans}
 use Rattle.contract_grammar.proofs.Meaning.{reading_means}
+use Rattle.contract_grammar.proofs.Determined.{reading_is}
 use Rattle.oxii_defs.specs.Syntax.{Op}
 use Rattle.oxii_defs.specs.WellFormed.{IsWellFormed, AllDiffer}
 use Rattle.txn_core.specs.Meant.{op_of}
@@ -19,10 +19,11 @@ use Rattle.contract_text.specs.declared.faults.Contract.{Contract}
 use Rattle.contract_text.specs.declared.faults.TextFault.{TextFault}
 use Rattle.contract_text.specs.declared.faults.TextFault.TheVariants as fault
 use Rattle.contract_text.specs.Symbols.{made}
-use Rattle.contract_text.specs.Flaws.{flaws, first_flaw}
-use Rattle.contract_text.specs.Room.{IsBounded, AllBounded, IsBoundedOp, AreBounded, HasRoom, AllHaveRoom, HasRoomInOp}
-use Rattle.contract_text.specs.Verdict.{Verdict, accepted, flawed, syntax_fault, limit_fault, judged, told, verdict, Gives, IsContract, HasFlaw, HasFault}
-use Rattle.contract_text.proofs.First.{first_noted}
+use Rattle.contract_text.specs.Flaws.{noted, flaws, first_flaw}
+use Rattle.contract_text.specs.Room.{IsBounded, AllBounded, IsBoundedOp, HasRoom, AllHaveRoom, HasRoomInOp}
+use Rattle.contract_text.specs.TextMeaning.{IsContract, HasTextFault}
+use Rattle.contract_text.specs.Verdict.{Verdict, accepted, flawed, syntax_fault, limit_fault, judged, told, verdict, Tells, GivesVerdict}
+use Rattle.contract_text.proofs.First.{first_noted, noted_first}
 use Rattle.contract_text.proofs.Bounds.{operations_bounded}
 use Rattle.contract_text.proofs.Fine.{AreFine, accepted_fine, no_flaws, all_first, all_rest, all_more}
 
@@ -50,7 +51,7 @@ room_each (o ∷ os) h = all_more (λ o. HasRoomInOp (operation o)) o os (room_i
 
 pub room_read : (text : List ℕ) (os : List Operation) → reading text ≡ reads (operations os) → All (λ o. HasRoomInOp (operation o)) os
 room_read text os is =
-    let means = subst (λ r. Means (tokens text) (length text) r) is (reading_means text) in
+    let means = subst (λ r. ReadingMeans (tokens text) (length text) r) is (reading_means text) in
     room_each os (operations_bounded (tokens text) (operations os) means.0 means.1).each
 
 -- ---- the verdict
@@ -59,48 +60,13 @@ pub verdict_read : (text : List ℕ) (r : Reading) → reading text ≡ r → ve
 unfolding verdict
 verdict_read text r is = ap told is
 
-accepted_is : (os os' : List Op) → accepted os ≡ accepted os' → os ≡ os'
-accepted_is os os' e = cc
-
-judged_fine : (os : List raw.Op) (first : Option Flaw) → first_flaw os ≡ first → AreBounded os → (typed : List Op) → judged first os ≡ accepted typed → AreFine typed
-judged_fine os None is room typed e = subst AreFine (accepted_is _ _ e) (accepted_fine os is room)
-judged_fine os (Some f) is room typed e = absurd cc
-
-told_fine : (text : List ℕ) (r : Reading) → Means (tokens text) (length text) r → (typed : List Op) → told r ≡ accepted typed → AreFine typed
-told_fine text (reads os) means typed e = judged_fine os (first_flaw os) refl (operations_bounded (tokens text) os means.0 means.1) typed e
-told_fine text (syntax_at at) means typed e = absurd cc
-told_fine text (limit_at at) means typed e = absurd cc
-
-pub verdict_fine : (text : List ℕ) (typed : List Op) → verdict text ≡ accepted typed → AreFine typed
-unfolding verdict
-verdict_fine text typed e = told_fine text (reading text) (reading_means text) typed e
-
-pub given_fine : (text : List ℕ) (answer : Result Contract TextFault) → Gives answer (verdict text) → IfOk answer (λ contract. All IsWellFormed (map op_of contract.ops))
-given_fine text (Ok contract) h = (verdict_fine text (map op_of contract.ops) h).each
-given_fine text (Err f) h = tt
-
-pub given_names : (text : List ℕ) (answer : Result Contract TextFault) → Gives answer (verdict text) → IfOk answer (λ contract. AllDiffer (map (λ op. op.name) (map op_of contract.ops)))
-given_names text (Ok contract) h = (verdict_fine text (map op_of contract.ops) h).names
-given_names text (Err f) h = tt
-
-pub given_count : (text : List ℕ) (answer : Result Contract TextFault) → Gives answer (verdict text) → IfOk answer (λ contract. length contract.ops ≤ 16)
-given_count text (Ok contract) h = subst (λ n. n ≤ 16) (length-map contract.ops op_of) (verdict_fine text (map op_of contract.ops) h).count
-given_count text (Err f) h = tt
-
 -- ---- what it means
-
--- the same of a verdict
-abbrev Tells : List ℕ → Verdict → Type 0
-Tells text (accepted typed) = IsContract text typed
-Tells text (syntax_fault at) = IsSyntaxFault (tokens text) (length text) at
-Tells text (limit_fault at) = IsLimitFault (tokens text) at
-Tells text (flawed f) = HasFlaw text f
 
 judged_tells : (text : List ℕ) (os : List raw.Op) → SpellsContract (tokens text) os → IsWithinLimits (tokens text) → (first : Option Flaw) → first_flaw os ≡ first → Tells text (judged first os)
 judged_tells text os r within None is = record { operations = os; spelled = r; within = within; flawless = no_flaws (flaws os) is; stands = refl }
 judged_tells text os r within (Some f) is = record { operations = os; spelled = r; within = within; first = first_noted f (flaws os) is }
 
-told_tells : (text : List ℕ) (r : Reading) → Means (tokens text) (length text) r → Tells text (told r)
+told_tells : (text : List ℕ) (r : Reading) → ReadingMeans (tokens text) (length text) r → Tells text (told r)
 told_tells text (reads os) means = judged_tells text os means.0 means.1 (first_flaw os) refl
 told_tells text (syntax_at at) means = means
 told_tells text (limit_at at) means = means
@@ -109,14 +75,53 @@ verdict_tells : (text : List ℕ) (v : Verdict) → verdict text ≡ v → Tells
 unfolding verdict
 verdict_tells text v is = subst (Tells text) is (told_tells text (reading text) (reading_means text))
 
-pub verdict_contract : (text : List ℕ) (typed : List Op) → verdict text ≡ accepted typed → IsContract text typed
-verdict_contract text typed e = verdict_tells text (accepted typed) e
+-- nothing else is told of a text
+tells_verdict : (text : List ℕ) (v : Verdict) → Tells text v → verdict text ≡ v
+unfolding verdict
+tells_verdict text (accepted typed) c =
+    ap told (reading_is text (reads c.operations) (c.spelled, c.within)) ∙ ap (λ fs. judged (noted None fs) c.operations) c.flawless ∙ ap (λ ops. accepted ops) (sym c.stands)
+tells_verdict text (syntax_fault at) h = ap told (reading_is text (syntax_at at) h)
+tells_verdict text (limit_fault at) h = ap told (reading_is text (limit_at at) h)
+tells_verdict text (flawed f) h = ap told (reading_is text (reads h.operations) (h.spelled, h.within)) ∙ ap (λ o. judged o h.operations) (noted_first f (flaws h.operations) h.first)
 
-pub given_contract : (text : List ℕ) (answer : Result Contract TextFault) → Gives answer (verdict text) → IfOk answer (λ contract. IsContract text (map op_of contract.ops))
+pub verdict_meant : (text : List ℕ) (v : Verdict) → (verdict text ≡ v) ↔ Tells text v
+verdict_meant text v = (verdict_tells text v, tells_verdict text v)
+
+pub contract_of : (text : List ℕ) (ops : List Op) → verdict text ≡ accepted ops → IsContract text ops
+contract_of text ops e = verdict_tells text (accepted ops) e
+
+pub accepted_of : (text : List ℕ) (ops : List Op) → IsContract text ops → verdict text ≡ accepted ops
+accepted_of text ops c = tells_verdict text (accepted ops) c
+
+accepted_is : (os os' : List Op) → accepted os ≡ accepted os' → os ≡ os'
+accepted_is os os' e = cc
+
+-- a text stands for one list of operations
+pub one_contract : (text : List ℕ) (ops ops' : List Op) → IsContract text ops → IsContract text ops' → ops ≡ ops'
+one_contract text ops ops' c d = accepted_is ops ops' (sym (accepted_of text ops c) ∙ accepted_of text ops' d)
+
+-- ---- what is accepted
+
+pub contract_fine : (text : List ℕ) (ops : List Op) → IsContract text ops → AreFine ops
+contract_fine text ops c = rw c.stands (accepted_fine c.operations (ap (noted None) c.flawless) (operations_bounded (tokens text) c.operations c.spelled c.within))
+
+pub given_fine : (text : List ℕ) (answer : Result Contract TextFault) → GivesVerdict answer (verdict text) → IfOk answer (λ contract. All IsWellFormed (map op_of contract.ops))
+given_fine text (Ok contract) h = (contract_fine text (map op_of contract.ops) (contract_of text _ h)).each
+given_fine text (Err f) h = tt
+
+pub given_names : (text : List ℕ) (answer : Result Contract TextFault) → GivesVerdict answer (verdict text) → IfOk answer (λ contract. AllDiffer (map (λ op. op.name) (map op_of contract.ops)))
+given_names text (Ok contract) h = (contract_fine text (map op_of contract.ops) (contract_of text _ h)).names
+given_names text (Err f) h = tt
+
+pub given_count : (text : List ℕ) (answer : Result Contract TextFault) → GivesVerdict answer (verdict text) → IfOk answer (λ contract. length contract.ops ≤ 16)
+given_count text (Ok contract) h = subst (λ n. n ≤ 16) (length-map contract.ops op_of) (contract_fine text (map op_of contract.ops) (contract_of text _ h)).count
+given_count text (Err f) h = tt
+
+pub given_contract : (text : List ℕ) (answer : Result Contract TextFault) → GivesVerdict answer (verdict text) → IfOk answer (λ contract. IsContract text (map op_of contract.ops))
 given_contract text (Ok contract) h = verdict_tells text _ h
 given_contract text (Err f) h = tt
 
-pub given_fault : (text : List ℕ) (answer : Result Contract TextFault) → Gives answer (verdict text) → IfErr answer (HasFault text)
+pub given_fault : (text : List ℕ) (answer : Result Contract TextFault) → GivesVerdict answer (verdict text) → IfErr answer (HasTextFault text)
 given_fault text (Ok contract) h = tt
 given_fault text (Err (fault.Syntax at)) h = verdict_tells text _ h
 given_fault text (Err (fault.UnknownName at)) h = verdict_tells text _ h

@@ -6,7 +6,7 @@ use Rattle.std.proofs.lemmas.Bool.Decides.{nat_tests}
 use Rattle.contract_grammar.specs.declared.token.Operator.{Operator}
 use Rattle.contract_grammar.specs.declared.token.Mark.TheVariants.{WordRequire, WordIf, WordElse, Semicolon, Becomes}
 use Rattle.contract_grammar.specs.declared.token.Token.TheVariants.{Number, Named, Infix, Not, Open, Close}
-use Rattle.contract_grammar.specs.declared.token.Span.{Span}
+use Rattle.contract_grammar.specs.declared.token.Extent.{Extent}
 use Rattle.contract_grammar.specs.declared.token.Placed.{Placed}
 use Rattle.contract_grammar.specs.Tree.{Tree, number, name, negation, binary, begun_at}
 use Rattle.contract_grammar.specs.Grammar.{tok, fixed, Spells, of_number, of_name, of_group, of_not, of_binary, of_tighter}
@@ -71,7 +71,7 @@ stays_both s t = record { scopes = t.scopes ∙ s.scopes; ops = t.ops ∙ s.ops;
 pub stays_past : (c : Tally) (xs ys : List Placed) → Stays c (past c xs) → Stays (past c xs) (past (past c xs) ys) → Stays c (past c (xs ++ ys))
 stays_past c xs ys s t = rw (past_both c xs ys) (stays_both s t)
 
-module _ (c : Tally) (w : Span) where
+module _ (c : Tally) (w : Extent) where
   pub stays_number : (n : ℕ) → Stays c (tallied c (tok w (Number n)))
   unfolding tallied
   stays_number n = record { scopes = refl; ops = refl; previous = λ h. rw h refl }
@@ -120,11 +120,11 @@ module _ (c : Tally) (w : Span) where
 
 small_begun : (p : ℕ) (e : Tree) → IsSmall e → IsSmall (begun_at p e)
 small_begun p (number at n) h = h
-small_begun p (name at x) h = h
+small_begun p (name at own x) h = h
 small_begun p (negation at e) h = h
 small_begun p (binary at op a b) h = h
 
-small_number : (n : ℕ) → nat_lt 4611686018427387903 n ≡ false → n ≤ max_value
+small_number : (n : ℕ) → nat_lt max_value n ≡ false → n ≤ max_value
 small_number n h = grind (arith, nat_tests)
 
 pub expr_small : {l : ℕ} {ts : List Placed} {e : Tree} → Spells l ts e → (c : Tally) → Quiet c ts → IsSmall e

@@ -64,15 +64,15 @@ kind_flaws value.Number value.Truth at = flaw at Kind ∷ []
 kind_flaws value.Truth value.Number at = flaw at Kind ∷ []
 kind_flaws value.Truth value.Truth at = []
 
--- a name in an expression: an unknown one fits every kind
-abbrev pub name_flaws : Option Symbol → ValueKind → ℕ → List Flaw
-name_flaws None wanted at = flaw at UnknownName ∷ []
-name_flaws (Some s) wanted at = kind_flaws value.Number wanted at
+-- a name in an expression: an unknown one fits every kind, and stands at its own byte, also in parentheses
+abbrev pub name_flaws : Option Symbol → ValueKind → (at own : ℕ) → List Flaw
+name_flaws None wanted at own = flaw own UnknownName ∷ []
+name_flaws (Some s) wanted at own = kind_flaws value.Number wanted at
 
 -- the flaws of an expression of which a kind is wanted
 abbrev pub expr_flaws : List Param → List (List ℕ) → ValueKind → Tree → List Flaw
 expr_flaws params locals wanted (number at n) = kind_flaws value.Number wanted at
-expr_flaws params locals wanted (name at x) = name_flaws (symbol_of params locals x) wanted at
+expr_flaws params locals wanted (name at own x) = name_flaws (symbol_of params locals x) wanted at own
 expr_flaws params locals wanted (negation at e) = kind_flaws value.Truth wanted at ++ expr_flaws params locals value.Truth e
 expr_flaws params locals wanted (binary at op a b) = kind_flaws (result_kind op) wanted at
     ++ (expr_flaws params locals (operand_kind op) a ++ expr_flaws params locals (operand_kind op) b)

@@ -1,5 +1,5 @@
 -- What holds of the second pass.
-use Rattle.std.specs.Prelude.{◌≡◌, ℕ, List, length, map}
+use Rattle.std.specs.Prelude.{◌≡◌, ◌↔◌, ℕ, List, length, map}
 use Rattle.std.specs.List.{All}
 use Rattle.contract_grammar.specs.declared.token.Placed.{Placed}
 use Rattle.contract_grammar.specs.Tree as raw
@@ -10,11 +10,16 @@ use Rattle.oxii_defs.specs.Syntax.{Op}
 use Rattle.oxii_defs.specs.WellFormed.{AllDiffer, IsWellFormed}
 use Rattle.oxii_defs.specs.Lawful.{IsUpTo}
 use Rattle.contract_text.specs.Room.{AreBounded}
-use Rattle.contract_text.specs.Verdict.{accepted, verdict}
+use Rattle.contract_text.specs.TextMeaning.{IsContract}
+use Rattle.contract_text.specs.Verdict.{Verdict, verdict, Tells}
 
 -- the limits of the tokens are limits of the operations
 abbrev pub LimitsBoundOperations : Type 0
 LimitsBoundOperations = (ts : List Placed) (os : List raw.Op) → SpellsContract ts os → IsWithinLimits ts → AreBounded os
+
+-- a verdict is given exactly where the grammar, the limits and the flaws say so
+abbrev pub VerdictsAreMeant : Type 0
+VerdictsAreMeant = (text : List ℕ) (v : Verdict) → (verdict text ≡ v) ↔ Tells text v
 
 -- 1 to 16 well-formed operations, whose names are names and differ
 pub record AreLawfulOps (ops : List Op) : Type 0 where
@@ -23,6 +28,6 @@ pub record AreLawfulOps (ops : List Op) : Type 0 where
   pub names : AllDiffer (map (λ op. op.name) ops)
   pub fine : All IsWellFormed ops
 
--- what an accepted text stands for can be the operations of an application
+-- what a contract's text stands for can be the operations of an application
 abbrev pub AcceptedContractsAreLawful : Type 0
-AcceptedContractsAreLawful = (text : List ℕ) (ops : List Op) → verdict text ≡ accepted ops → AreLawfulOps ops
+AcceptedContractsAreLawful = (text : List ℕ) (ops : List Op) → IsContract text ops → AreLawfulOps ops

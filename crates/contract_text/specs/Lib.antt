@@ -12,5 +12,6 @@ pub mod Symbols
 pub mod Flaws
 pub mod Typed
 pub mod Room
+pub mod TextMeaning
 pub mod Verdict
 pub mod Laws

@@ -2,13 +2,13 @@
 use Rattle.std.specs.Prelude.{ℕ, ◌*◌, ◌≤◌, ◌<◌, List, [], ◌++◌, length}
 use Rattle.std.specs.List.{All}
 use Rattle.contract_grammar.specs.Tree.{Tree, number, name, negation, binary, Statement, define, assign, demand, choose, again, Statements, nil, then_one, Op}
-use Rattle.txn_types.specs.Values.{max_value}
+use Rattle.txn_types.specs.Values.{max_value, max_turns}
 use Rattle.contract_text.specs.Symbols.{made}
 
 -- each number is at most the largest value
 abbrev pub IsSmall : Tree → Type 0
 IsSmall (number at n) = n ≤ max_value
-IsSmall (name at x) = Unit {0}
+IsSmall (name at own x) = Unit {0}
 IsSmall (negation at e) = IsSmall e
 IsSmall (binary at op a b) = IsSmall a × IsSmall b
 
@@ -19,7 +19,7 @@ abbrev mutual
   IsBounded locals turns (assign at x e) = (length locals ≤ 32) × IsSmall e
   IsBounded locals turns (demand e) = (length locals ≤ 32) × IsSmall e
   IsBounded locals turns (choose e b c) = (length locals ≤ 32) × IsSmall e × AllBounded locals turns b × AllBounded locals turns c
-  IsBounded locals turns (again n b) = (0 < n) × (n ≤ 64) × (turns * n ≤ 1024) × AllBounded locals (turns * n) b
+  IsBounded locals turns (again n b) = (0 < n) × (n ≤ 64) × (turns * n ≤ max_turns) × AllBounded locals (turns * n) b
 
   -- the statements of a block
   pub AllBounded : List (List ℕ) → ℕ → Statements → Type 0

@@ -56,23 +56,23 @@ compared (Some op) a b = meant.Cmp op a b
 -- a number
 abbrev pub typed_expr : List Param → List (List ℕ) → Tree → meant.Expr
 typed_expr params locals (number at n) = meant.Num n
-typed_expr params locals (name at x) = used (symbol_of params locals x)
+typed_expr params locals (name at own x) = used (symbol_of params locals x)
 typed_expr params locals (negation at e) = no_number
 typed_expr params locals (binary at op a b) = calculated (calculation op) (typed_expr params locals a) (typed_expr params locals b)
 
 -- what an operator makes of its operands, as truth values and as numbers
-abbrev pub joined : Operator → meant.Cond → meant.Cond → meant.Expr → meant.Expr → meant.Cond
-joined Or p q a b = meant.Or p q
-joined And p q a b = meant.And p q
-joined op p q a b = compared (comparison op) a b
+abbrev pub combined : Operator → meant.Cond → meant.Cond → meant.Expr → meant.Expr → meant.Cond
+combined Or p q a b = meant.Or p q
+combined And p q a b = meant.And p q
+combined op p q a b = compared (comparison op) a b
 
 -- a truth value
 abbrev pub typed_cond : List Param → List (List ℕ) → Tree → meant.Cond
 typed_cond params locals (number at n) = no_truth
-typed_cond params locals (name at x) = no_truth
+typed_cond params locals (name at own x) = no_truth
 typed_cond params locals (negation at e) = meant.Not (typed_cond params locals e)
 typed_cond params locals (binary at op a b) =
-    joined op (typed_cond params locals a) (typed_cond params locals b) (typed_expr params locals a) (typed_expr params locals b)
+    combined op (typed_cond params locals a) (typed_cond params locals b) (typed_expr params locals a) (typed_expr params locals b)
 
 -- an assignment; where the name left of it is unknown or a number parameter, which is a flaw, it stands for one to the first local
 abbrev pub assigned : Option Symbol → meant.Expr → meant.Stmt

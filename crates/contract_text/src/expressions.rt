@@ -95,7 +95,7 @@ pub fn typed_expr(
 {
     match e {
         RawExpr::Number(_, n) => Ok(Expr::Num(*n)),
-        RawExpr::Named(_, name) => Ok(used(symbol_of(params, locals, name))),
+        RawExpr::Named { name, .. } => Ok(used(symbol_of(params, locals, name))),
         RawExpr::Not(_, _) => Ok(no_number()),
         RawExpr::Binary(_, op, a, b) => {
             let Some(calc) = calculation(*op) else {
@@ -121,7 +121,7 @@ pub fn typed_cond(
     ensures { IfOk result (λ typed. cond_of typed ≡ typed_cond params.now locals.now (tree e.now)) }
 {
     match e {
-        RawExpr::Number(_, _) | RawExpr::Named(_, _) => Ok(no_truth()),
+        RawExpr::Number(_, _) | RawExpr::Named { .. } => Ok(no_truth()),
         RawExpr::Not(_, a) => Ok(Cond::Not(Boxed::new(
             alloc,
             typed_cond(alloc, params, locals, a)?,

@@ -22,9 +22,9 @@ pub fn find(
 {
     match e {
         Expr::Number(at, _) => note_kind(first, *at, ValueKind::Number, wanted),
-        Expr::Named(at, name) => match symbol_of(params, locals, name) {
+        Expr::Named { at, own, name } => match symbol_of(params, locals, name) {
             Some(_) => note_kind(first, *at, ValueKind::Number, wanted),
-            None => note(first, *at, FlawKind::UnknownName),
+            None => note(first, *own, FlawKind::UnknownName),
         },
         Expr::Not(at, a) => {
             note_kind(first, *at, ValueKind::Truth, wanted);

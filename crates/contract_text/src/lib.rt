@@ -10,11 +10,9 @@ mod operations;
 mod reading;
 mod statements;
 mod symbols;
-#[cfg(test)]
-mod tests;
 
 pub use faults::{Contract, TextFault};
 pub use flaws::{Flaw, FlawKind, ValueKind};
-pub use laws::{accepted_contracts_are_lawful, limits_bound_operations};
+pub use laws::{accepted_contracts_are_lawful, limits_bound_operations, verdicts_are_meant};
 pub use reading::read_contract;
 pub use symbols::Symbol;

@@ -7,7 +7,8 @@ ghost use Rattle.txn_core.specs.Meant.{op_of};
 ghost use Rattle.contract_text.specs.Laws.{AreLawfulOps};
 ghost use Rattle.contract_text.specs.Room.{HasRoomInOp};
 ghost use Rattle.contract_text.specs.Flaws.{first_flaw};
-ghost use Rattle.contract_text.specs.Verdict.{judged, told, verdict, Gives, flawed, IsContract, HasFault};
+ghost use Rattle.contract_text.specs.TextMeaning.{IsContract, HasTextFault};
+ghost use Rattle.contract_text.specs.Verdict.{judged, told, verdict, GivesVerdict, flawed};
 
 use crate::faults::{Contract, TextFault};
 use crate::flaws::{Flaw, FlawKind};
@@ -19,7 +20,7 @@ use txn_types::Names;
 
 /// A flaw as a fault.
 fn fault_of(flaw: Flaw) -> TextFault
-    ensures { Gives (Err result) (flawed flaw) }
+    ensures { GivesVerdict (Err result) (flawed flaw) }
 {
     let at = flaw.at;
     match flaw.kind {
@@ -32,7 +33,7 @@ fn fault_of(flaw: Flaw) -> TextFault
 /// The second pass over the operations of a text.
 fn judge(alloc: Global, raw: &[Operation]) -> Result<Contract, TextFault>
     requires { All (λ op. HasRoomInOp (operation op)) raw.now }
-    ensures { Gives result (judged (first_flaw (operations raw.now)) (operations raw.now)) }
+    ensures { GivesVerdict result (judged (first_flaw (operations raw.now)) (operations raw.now)) }
 {
     let mut first = None;
     let mut ops = Ops::new(alloc);
@@ -48,7 +49,7 @@ fn judge(alloc: Global, raw: &[Operation]) -> Result<Contract, TextFault>
 /// A text of at most 65,536 bytes, by its verdict.
 fn read_exactly(alloc: Global, text: &[u8]) -> Result<Contract, TextFault>
     requires { length text.now ≤ 65536 }
-    ensures { Gives result (verdict text.now) }
+    ensures { GivesVerdict result (verdict text.now) }
 {
     match read(alloc, text) {
         Ok(raw) => judge(alloc, raw.as_slice()),
@@ -62,11 +63,11 @@ fn read_exactly(alloc: Global, text: &[u8]) -> Result<Contract, TextFault>
 pub fn read_contract(alloc: Global, text: &str) -> Result<Contract, TextFault>
     requires { length text.now ≤ 65536 }
     // The verdict on the text, unless memory runs out.
-    ensures exact { Gives result (verdict text.now) }
+    ensures exact { GivesVerdict result (verdict text.now) }
     // The text spells operations within the limits, without flaws, and the contract has what they stand for.
     ensures contract { IfOk result (λ contract. IsContract text.now (map op_of contract.ops)) }
     // A fault is the first one, at its byte.
-    ensures fault { IfErr result (HasFault text.now) }
+    ensures fault { IfErr result (HasTextFault text.now) }
     // Each operation is well formed.
     ensures fine { IfOk result (λ contract. All IsWellFormed (map op_of contract.ops)) }
     // No two operations have one name.

@@ -4,7 +4,8 @@ use Rattle.std.specs.List.{list_any, cons_option}
 use Rattle.std.proofs.Common.{sym, ◌∙◌, ap}
 use Rattle.std.proofs.lemmas.Bool.{eqb-true, cond-true, cond-false}
 use Rattle.node_defs.specs.Counting.{first_of_each}
-use Rattle.counting_laws.proofs.Reaching.{contents, contents-yes, contents-no}
+use Rattle.counting_laws.specs.Contents.{contents}
+use Rattle.counting_laws.proofs.Reaching.{contents-yes, contents-no}
 
 -- a sender stands among the first of each exactly where it stands in the list
 pub senders_stay : {A : Type 0} (s : ℕ) (xs : List (ℕ × A)) → list_any (λ y. y.0 == s) (first_of_each xs) ≡ list_any (λ y. y.0 == s) xs

@@ -1,3 +1,4 @@
 pub mod Reversed
+pub mod Kept
 pub mod Firsts
 pub mod Reaching

@@ -1,2 +1,3 @@
 pub use Rattle.node_defs.specs.Counting
+pub mod Contents
 pub mod Laws

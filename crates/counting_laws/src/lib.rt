@@ -1,14 +1,8 @@
-//! Laws of counting: the first of each sender, and the first to reach a count.
+//! Counting: the first content to reach a count, and laws of the first of each sender.
 #![tactic(auto)]
 
-ghost use Rattle.counting_laws.specs.Laws.{SendersStay, ReachedStays};
+mod laws;
+mod reach;
 
-/// Dropping all but the first of each sender loses no sender.
-pub fn senders_stay<A>()
-    ensures law { SendersStay A }
-{}
-
-/// What has reached the count first stays the first, whatever comes later.
-pub fn reached_stays<A>()
-    ensures law { ReachedStays A }
-{}
+pub use laws::{reached_stays, senders_stay};
+pub use reach::{Tally, first_to_reach};

@@ -7,7 +7,8 @@ ghost use Rattle.txn_core.specs.Graphs.{IsGraphOf};
 ghost use Rattle.dep_graph.specs.Successors.{successors_of};
 
 use crate::walk::{Successors, is_after};
-use txn_core::{Block, Graph, Txn};
+use txn_core::Graph;
+use txn_types::{Block, Txn};
 
 /// The positions that depend on `t`. A number that is no position has none.
 pub fn successors<'a>(graph: &'a Graph, t: u16) -> Successors<'a>

@@ -1,12 +1,12 @@
-//! The dependency graph of a block, and who follows whom in it.
+//! The dependency graph of a block, who follows whom in it, and whether all that a position depends on is known.
 #![tactic(auto)]
 
 mod follow;
+mod known;
 mod pairs;
-#[cfg(test)]
-mod tests;
 mod walk;
 
 pub use follow::{other_app_follows, successors};
+pub use known::knows_preds;
 pub use pairs::build;
 pub use walk::Successors;

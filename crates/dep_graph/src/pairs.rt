@@ -4,7 +4,8 @@ ghost use Rattle.std.specs.Prelude.{◌≡◌, ◌≤◌, length, IfOk};
 ghost use Rattle.oxii_defs.specs.Dependency.{preds_from, graph_of};
 
 use std::alloc::Global;
-use txn_core::{Block, Graph, GrowingList, Kind, OutOfMemory, Preds, Txn, depends};
+use txn_core::{Graph, depends};
+use txn_types::{Block, GrowingList, Kind, OutOfMemory, Preds, Txn};
 
 /// The dependency graph of a block. One without transactions has the graph without positions.
 pub fn build(alloc: Global, block: &Block, kind: Kind) -> Result<Graph, OutOfMemory>

@@ -1,5 +1,5 @@
 -- Each form gives Ok exactly where the value says it.
-use Rattle.std.proofs.Common.{◌≡◌, ℕ, ◌≤◌, Bool, true, false, cond, ◌&&◌, leb, List, [], ◌∷◌, Option, Some, None, option_and_then, Result, Ok, Err, refl, sym, ap, subst, ◌∙◌, arith}
+use Rattle.std.proofs.Common.{◌≡◌, ℕ, ◌≤◌, Bool, true, false, cond, ◌&&◌, leb, List, [], ◌∷◌, Option, Some, None, option_and_then, Result, Ok, Err, Contains, refl, sym, ap, subst, ◌∙◌, arith}
 use Rattle.std.specs.Prelude.{⊤}
 use Rattle.std.proofs.lemmas.Bool.{leb-true, le-leb}
 use Rattle.serde_json.specs.Data.{unsigned, negative, float, Data, null, boolean, number, string, array, object, Items, Members, no_members, member}
@@ -14,6 +14,8 @@ use Rattle.doc_forms.specs.Forms.{wanted, whole, at, number_in, number_at, name_
 use Rattle.doc_forms.specs.Tables.{reference, found}
 use Rattle.doc_forms.specs.Meaning.{HasOnly, HasNumber, HasName, HasReference}
 use Rattle.doc_forms.proofs.NameTests.{Decides-name}
+use Rattle.doc_forms.proofs.Listed.{listed_decides}
+use Rattle.doc_forms.proofs.LookUps.{Finds}
 
 pub bind_ok : {A B : Type 0} (r : Result A Fault) (f : A → Result B Fault) (y : B) → (r >>= f) ≡ Ok y → (x : A) × (r ≡ Ok x) × (f x ≡ Ok y)
 bind_ok (Ok x) f y e = (x, refl, e)
@@ -119,16 +121,16 @@ number_at_reads k low high w ms n h = rw (number_reads low high w (get_member k 
 pub only_means : (keys : List (List ℕ)) (ms : Members) (u : ⊤) → form.only keys ms ≡ Ok u → HasOnly keys ms
 unfolding form.only
 only_means keys no_members u e = tt
-only_means keys (member k d ms) u e = by_test (is_listed keys k) refl e (only_means keys ms u)
+only_means keys (member k d ms) u e = by_test (is_listed keys k) (listed_decides keys k).0 e (only_means keys ms u)
   where
-    by_test : (b : Bool) → is_listed keys k ≡ b → cond b (form.only keys ms) (Err (Field (Key k ∷ []))) ≡ Ok u → (form.only keys ms ≡ Ok u → HasOnly keys ms) → HasOnly keys (member k d ms)
-    by_test true is e f = (is, f e)
-    by_test false is e f = absurd cc
+    by_test : (b : Bool) → (b ≡ true → Contains keys k) → cond b (form.only keys ms) (Err (Field (Key k ∷ []))) ≡ Ok u → (form.only keys ms ≡ Ok u → HasOnly keys ms) → HasOnly keys (member k d ms)
+    by_test true there e f = (there refl, f e)
+    by_test false there e f = absurd cc
 
 pub only_reads : (keys : List (List ℕ)) (ms : Members) → HasOnly keys ms → form.only keys ms ≡ Ok tt
 unfolding form.only
 only_reads keys no_members h = refl
-only_reads keys (member k d ms) h = rw h.0 (only_reads keys ms h.1)
+only_reads keys (member k d ms) h = rw ((listed_decides keys k).1 h.0) (only_reads keys ms h.1)
 
 -- names and references
 
@@ -155,15 +157,15 @@ found_ok : {E : Type 0} (o : Option E) (e : E) → found o ≡ Ok e → o ≡ So
 found_ok None e h = absurd cc
 found_ok (Some x) e h = cc
 
-pub reference_means : {E : Type 0} (lookup : List ℕ → Option E) (v : Option Data) (e : E) → reference lookup v ≡ Ok e → HasReference lookup v e
+pub reference_means : {E : Type 0} (lookup : List ℕ → Option E) (Names : List ℕ → E → Type 0) → Finds lookup Names → (v : Option Data) (e : E) → reference lookup v ≡ Ok e → HasReference Names v e
 unfolding reference
-reference_means lookup v e h =
+reference_means lookup Names is v e h =
     let a = bind_ok (form.name v) _ e h in
-    (a.0, name_means v a.0 a.1, found_ok (lookup a.0) e a.2)
+    (a.0, name_means v a.0 a.1, is.found a.0 e (found_ok (lookup a.0) e a.2))
 
-pub reference_reads : {E : Type 0} (lookup : List ℕ → Option E) (v : Option Data) (e : E) → HasReference lookup v e → reference lookup v ≡ Ok e
+pub reference_reads : {E : Type 0} (lookup : List ℕ → Option E) (Names : List ℕ → E → Type 0) → Finds lookup Names → (v : Option Data) (e : E) → HasReference Names v e → reference lookup v ≡ Ok e
 unfolding reference
-reference_reads lookup v e h = rw (name_reads v h.0 h.1, h.2) refl
+reference_reads lookup Names is v e h = rw (name_reads v h.0 h.1, is.finds h.0 e h.2) refl
 
 -- objects
 

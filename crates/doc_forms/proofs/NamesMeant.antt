@@ -11,11 +11,12 @@ use Rattle.serde_json.specs.Find.{get_member}
 use Rattle.oxii_defs.specs.WellFormed.{AllDiffer}
 use Rattle.doc_forms.specs.declared.fault.Which.{Which}
 use Rattle.doc_forms.specs.Faults.{Double}
-use Rattle.doc_forms.specs.Forms.{items, list_at, name}
-use Rattle.doc_forms.specs.Tables.{has_name, new_name}
+use Rattle.doc_forms.specs.Forms.{items, list_at, name, is_listed}
+use Rattle.doc_forms.specs.Tables.{new_name}
 use Rattle.doc_forms.specs.Meaning.{HasNames, HasList, SaysName}
 use Rattle.doc_forms.proofs.Meant.{bind_ok, failed, same_ok, name_means, name_reads}
 use Rattle.doc_forms.proofs.EachMeant.{IsStep, ListGave, AllFresh, at_end, all_at_end, items_mean, items_read, list_at_means, list_at_reads}
+use Rattle.doc_forms.proofs.Listed.{listed_decides}
 use Rattle.doc_forms.proofs.SortedOnce.{first_there, later_there, there_cases, none_there}
 
 -- ---- names that differ
@@ -28,10 +29,6 @@ differ_at_end (y ∷ ys) x h new =
     by_place : Contains ys y ⊎ (x ≡ y) → ⊥
     by_place (inl found) = h.0 found
     by_place (inr same) = new (subst (Contains (y ∷ ys)) (sym same) (first_there y ys))
-
-pub differ_at_start : (xs ys : List (List ℕ)) → AllDiffer (xs ++ ys) → AllDiffer xs
-differ_at_start [] ys h = tt
-differ_at_start (x ∷ xs) ys h = (λ found. h.0 (Contains-append_left xs ys x found), differ_at_start xs ys h.1)
 
 -- a name between others is not among those before it
 pub differ_before : (xs : List (List ℕ)) (y : List ℕ) (ys : List (List ℕ)) → AllDiffer (xs ++ y ∷ ys) → ¬ Contains xs y
@@ -46,13 +43,7 @@ differ_before (x ∷ xs) y ys h = λ found. by_place (differ_before xs y ys h.1)
 
 -- the name is neither among the taken ones nor among those before it
 abbrev pub IsNewName : List (List ℕ) → List (List ℕ) → List ℕ → Type 0
-IsNewName taken done x = (has_name taken x || has_name done x) ≡ false
-
-pub name_decides : (names : List (List ℕ)) (text : List ℕ) → Decides (has_name names text) (Contains names text)
-unfolding has_name
-name_decides names text =
-    Decides-contains names text _
-    (Decides-by_or (λ other. bytes_eq other text) (λ other. other ≡ text) (λ l. list_any (λ other. bytes_eq other text) l) (λ other. bytes_eq-Decides other text) refl (λ _ _. refl) names)
+IsNewName taken done x = (is_listed taken x || is_listed done x) ≡ false
 
 neither : (a b : Bool) → (a || b) ≡ false → (a ≡ false) × (b ≡ false)
 neither true b e = absurd cc
@@ -66,13 +57,13 @@ pub new_is_absent : (taken done : List (List ℕ)) (x : List ℕ) → IsNewName 
 new_is_absent taken done x new = λ found. by_place (Contains-append_cases taken done x found)
   where
     by_place : Contains taken x ⊎ Contains done x → ⊥
-    by_place (inl found) = not_from_Decides _ (name_decides taken x) (neither _ _ new).0 found
-    by_place (inr found) = not_from_Decides _ (name_decides done x) (neither _ _ new).1 found
+    by_place (inl found) = not_from_Decides _ (listed_decides taken x) (neither _ _ new).0 found
+    by_place (inr found) = not_from_Decides _ (listed_decides done x) (neither _ _ new).1 found
 
 pub absent_is_new : (taken done : List (List ℕ)) (x : List ℕ) → ¬ Contains (taken ++ done) x → IsNewName taken done x
 absent_is_new taken done x absent =
-    rw (no_true (has_name taken x) (λ e. absent (Contains-append_left taken done x ((name_decides taken x).0 e))))
-    (no_true (has_name done x) (λ e. absent (Contains-append_right taken done x ((name_decides done x).0 e))))
+    rw (no_true (is_listed taken x) (λ e. absent (Contains-append_left taken done x ((listed_decides taken x).0 e))))
+    (no_true (is_listed done x) (λ e. absent (Contains-append_right taken done x ((listed_decides done x).0 e))))
 
 -- what is done with one item
 pub name_step : (taken : List (List ℕ)) → IsStep (new_name taken) SaysName at_end (IsNewName taken)
@@ -80,7 +71,7 @@ unfolding new_name
 name_step taken = record {
   means = λ done more d e.
       let a = bind_ok (name (Some d)) _ more e in
-      let f = failed (has_name taken a.0 || has_name done a.0) (Ok (done ++ a.0 ∷ [])) more (Double []) a.2 in
+      let f = failed (is_listed taken a.0 || is_listed done a.0) (Ok (done ++ a.0 ∷ [])) more (Double []) a.2 in
       (a.0, name_means (Some d) a.0 a.1, f.0, same_ok (done ++ a.0 ∷ []) more (Ok (done ++ a.0 ∷ [])) refl f.1);
   reads = λ done d x says new. rw (name_reads (Some d) x says, new) refl;
 }

@@ -1,8 +1,7 @@
 -- A set gives Ok exactly where its items lead to these entries, each once.
 use Rattle.std.proofs.Common.{◌≡◌, ◌≢◌, ◌⊎◌, inl, inr, ◌↔◌, ℕ, suc, ◌+◌, ◌<◌, ◌≤◌, Bool, true, false, not, ◌||◌, ◌&&◌, cond, nat_lt, ◌==◌, List, [], ◌∷◌, ◌++◌, length, map, take, drop, Option, Some, None, Ok, Contains, refl, sym, ap, subst, ◌∙◌, arith}
-use Rattle.std.specs.Prelude.{option_and_then, position}
 use Rattle.std.specs.Bool.{Decides}
-use Rattle.std.specs.List.{All, list_any, count_by, insert, position_or_len}
+use Rattle.std.specs.List.{All, list_any, count_by, insert}
 use Rattle.std.proofs.lemmas.Bool.{ltb-true}
 use Rattle.std.proofs.lemmas.Bool.Decides.{Decides-by_and, Decides-not, Decides-eqb, Decides-ltb}
 use Rattle.std.proofs.lemmas.List.{take-append-drop}
@@ -16,9 +15,10 @@ use Rattle.txn_types.specs.Rising.{IsRising}
 use Rattle.doc_forms.specs.declared.fault.Which.{Which}
 use Rattle.doc_forms.specs.Faults.{Double}
 use Rattle.doc_forms.specs.Forms.{items, list_at}
-use Rattle.doc_forms.specs.Tables.{has_rank, count_below, put_in, reference, new_reference, place_of, place_below, below}
+use Rattle.doc_forms.specs.Tables.{has_rank, count_below, put_in, reference, new_reference}
 use Rattle.doc_forms.specs.Meaning.{HasSet, RanksDiffer, SaysEntry, EachSays}
 use Rattle.doc_forms.proofs.Meant.{bind_ok, failed, same_ok, reference_means, reference_reads}
+use Rattle.doc_forms.proofs.LookUps.{Finds}
 use Rattle.doc_forms.proofs.EachMeant.{IsStep, ListGave, AllFresh, put_all, items_mean, items_read, list_at_means, list_at_reads}
 use Rattle.doc_forms.proofs.SortedOnce.{SortedBy, IsAsymmetric, sorted_once, all_of, first_there, later_there, there_cases, none_there}
 
@@ -211,21 +211,21 @@ apart_new rank done (x ∷ xs) differ new = (
 )
 
 -- what is done with one item
-pub reference_step : {E : Type 0} (rank : E → ℕ) (lookup : List ℕ → Option E) → IsStep (new_reference rank lookup) (SaysEntry lookup) (put_in rank) (IsNewRank rank)
+pub reference_step : {E : Type 0} (rank : E → ℕ) (lookup : List ℕ → Option E) (Names : List ℕ → E → Type 0) → Finds lookup Names → IsStep (new_reference rank lookup) (SaysEntry Names) (put_in rank) (IsNewRank rank)
 unfolding new_reference
-reference_step rank lookup = record {
+reference_step rank lookup Names is = record {
   means = λ done more d e.
       let a = bind_ok (reference lookup (Some d)) _ more e in
       let f = failed (has_rank rank done (rank a.0)) (Ok (put_in rank done a.0)) more (Double []) a.2 in
-      (a.0, reference_means lookup (Some d) a.0 a.1, new_rank rank done a.0 f.0, same_ok (put_in rank done a.0) more (Ok (put_in rank done a.0)) refl f.1);
-  reads = λ done d x says new. rw (reference_reads lookup (Some d) x says, told_new_rank rank done x new) refl;
+      (a.0, reference_means lookup Names is (Some d) a.0 a.1, new_rank rank done a.0 f.0, same_ok (put_in rank done a.0) more (Ok (put_in rank done a.0)) refl f.1);
+  reads = λ done d x says new. rw (reference_reads lookup Names is (Some d) x says, told_new_rank rank done x new) refl;
 }
 
 -- ---- the entries of a set
 
-of_set : {E : Type 0} (rank : E → ℕ) (lookup : List ℕ → Option E) (low high : ℕ) (v : Option Data) (entries : List E) → ListGave (SaysEntry lookup) (put_in rank) (IsNewRank rank) low high [] v entries
-    → HasSet rank lookup low high v entries
-of_set rank lookup low high v entries g = record {
+of_set : {E : Type 0} (rank : E → ℕ) (Names : List ℕ → E → Type 0) (low high : ℕ) (v : Option Data) (entries : List E) → ListGave (SaysEntry Names) (put_in rank) (IsNewRank rank) low high [] v entries
+    → HasSet rank Names low high v entries
+of_set rank Names low high v entries g = record {
   named = g.xs;
   list = g.list;
   differ = (new_apart rank [] g.xs g.fresh).0;
@@ -233,33 +233,33 @@ of_set rank lookup low high v entries g = record {
   same = λ e. subst (λ (l : _). Contains l e ↔ Contains g.xs e) g.is (λ h. put_from_none rank g.xs e h, λ h. put_there rank [] g.xs e h);
 }
 
-set_fresh : {E : Type 0} (rank : E → ℕ) (lookup : List ℕ → Option E) (low high : ℕ) (v : Option Data) (entries : List E) (s : HasSet rank lookup low high v entries) → AllFresh (put_in rank) (IsNewRank rank) [] s.named
-set_fresh rank lookup low high v entries s = apart_new rank [] s.named s.differ (all_of (IsNewRank rank []) s.named (λ z h. All-nil _))
+set_fresh : {E : Type 0} (rank : E → ℕ) (Names : List ℕ → E → Type 0) (low high : ℕ) (v : Option Data) (entries : List E) (s : HasSet rank Names low high v entries) → AllFresh (put_in rank) (IsNewRank rank) [] s.named
+set_fresh rank Names low high v entries s = apart_new rank [] s.named s.differ (all_of (IsNewRank rank []) s.named (λ z h. All-nil _))
 
-set_put : {E : Type 0} (rank : E → ℕ) (lookup : List ℕ → Option E) (low high : ℕ) (v : Option Data) (entries : List E) (s : HasSet rank lookup low high v entries) → put_all (put_in rank) [] s.named ≡ entries
-set_put rank lookup low high v entries s =
-    sorted_once (IsLower rank) (lower_one_way rank) (put_all (put_in rank) [] s.named) entries (all_put_sorted rank [] s.named tt (set_fresh rank lookup low high v entries s)) (rising_sorted rank entries s.rising)
+set_put : {E : Type 0} (rank : E → ℕ) (Names : List ℕ → E → Type 0) (low high : ℕ) (v : Option Data) (entries : List E) (s : HasSet rank Names low high v entries) → put_all (put_in rank) [] s.named ≡ entries
+set_put rank Names low high v entries s =
+    sorted_once (IsLower rank) (lower_one_way rank) (put_all (put_in rank) [] s.named) entries (all_put_sorted rank [] s.named tt (set_fresh rank Names low high v entries s)) (rising_sorted rank entries s.rising)
     (λ e. (λ h. (s.same e).1 (put_from_none rank s.named e h), λ h. put_there rank [] s.named e ((s.same e).0 h)))
 
-pub set_means : {E : Type 0} (rank : E → ℕ) (lookup : List ℕ → Option E) (low high : ℕ) (w : Which) (v : Option Data) (entries : List E) → items low high w (new_reference rank lookup) [] v ≡ Ok entries → HasSet rank lookup low high v entries
-set_means rank lookup low high w v entries e =
-    of_set rank lookup low high v entries (items_mean (new_reference rank lookup) (SaysEntry lookup) (put_in rank) (IsNewRank rank) (reference_step rank lookup) low high w [] v entries e)
+pub set_means : {E : Type 0} (rank : E → ℕ) (lookup : List ℕ → Option E) (Names : List ℕ → E → Type 0) → Finds lookup Names → (low high : ℕ) (w : Which) (v : Option Data) (entries : List E) → items low high w (new_reference rank lookup) [] v ≡ Ok entries → HasSet rank Names low high v entries
+set_means rank lookup Names is low high w v entries e =
+    of_set rank Names low high v entries (items_mean (new_reference rank lookup) (SaysEntry Names) (put_in rank) (IsNewRank rank) (reference_step rank lookup Names is) low high w [] v entries e)
 
-pub set_reads : {E : Type 0} (rank : E → ℕ) (lookup : List ℕ → Option E) (low high : ℕ) (w : Which) (v : Option Data) (entries : List E) → HasSet rank lookup low high v entries → items low high w (new_reference rank lookup) [] v ≡ Ok entries
-set_reads rank lookup low high w v entries s =
-    items_read (new_reference rank lookup) (SaysEntry lookup) (put_in rank) (IsNewRank rank) (reference_step rank lookup) low high w [] v s.named s.list (set_fresh rank lookup low high v entries s)
-    ∙ ap Ok (set_put rank lookup low high v entries s)
+pub set_reads : {E : Type 0} (rank : E → ℕ) (lookup : List ℕ → Option E) (Names : List ℕ → E → Type 0) → Finds lookup Names → (low high : ℕ) (w : Which) (v : Option Data) (entries : List E) → HasSet rank Names low high v entries → items low high w (new_reference rank lookup) [] v ≡ Ok entries
+set_reads rank lookup Names is low high w v entries s =
+    items_read (new_reference rank lookup) (SaysEntry Names) (put_in rank) (IsNewRank rank) (reference_step rank lookup Names is) low high w [] v s.named s.list (set_fresh rank Names low high v entries s)
+    ∙ ap Ok (set_put rank Names low high v entries s)
 
-pub set_at_means : {E : Type 0} (rank : E → ℕ) (lookup : List ℕ → Option E) (k : List ℕ) (low high : ℕ) (w : Which) (ms : Members) (entries : List E) → list_at k low high w (new_reference rank lookup) [] ms ≡ Ok entries
-    → HasSet rank lookup low high (get_member k ms) entries
-set_at_means rank lookup k low high w ms entries e =
-    of_set rank lookup low high (get_member k ms) entries (list_at_means (new_reference rank lookup) (SaysEntry lookup) (put_in rank) (IsNewRank rank) (reference_step rank lookup) k low high w [] ms entries e)
+pub set_at_means : {E : Type 0} (rank : E → ℕ) (lookup : List ℕ → Option E) (Names : List ℕ → E → Type 0) → Finds lookup Names → (k : List ℕ) (low high : ℕ) (w : Which) (ms : Members) (entries : List E) → list_at k low high w (new_reference rank lookup) [] ms ≡ Ok entries
+    → HasSet rank Names low high (get_member k ms) entries
+set_at_means rank lookup Names is k low high w ms entries e =
+    of_set rank Names low high (get_member k ms) entries (list_at_means (new_reference rank lookup) (SaysEntry Names) (put_in rank) (IsNewRank rank) (reference_step rank lookup Names is) k low high w [] ms entries e)
 
-pub set_at_reads : {E : Type 0} (rank : E → ℕ) (lookup : List ℕ → Option E) (k : List ℕ) (low high : ℕ) (w : Which) (ms : Members) (entries : List E) → HasSet rank lookup low high (get_member k ms) entries
+pub set_at_reads : {E : Type 0} (rank : E → ℕ) (lookup : List ℕ → Option E) (Names : List ℕ → E → Type 0) → Finds lookup Names → (k : List ℕ) (low high : ℕ) (w : Which) (ms : Members) (entries : List E) → HasSet rank Names low high (get_member k ms) entries
     → list_at k low high w (new_reference rank lookup) [] ms ≡ Ok entries
-set_at_reads rank lookup k low high w ms entries s =
-    list_at_reads (new_reference rank lookup) (SaysEntry lookup) (put_in rank) (IsNewRank rank) (reference_step rank lookup) k low high w [] ms s.named s.list (set_fresh rank lookup low high (get_member k ms) entries s)
-    ∙ ap Ok (set_put rank lookup low high (get_member k ms) entries s)
+set_at_reads rank lookup Names is k low high w ms entries s =
+    list_at_reads (new_reference rank lookup) (SaysEntry Names) (put_in rank) (IsNewRank rank) (reference_step rank lookup Names is) k low high w [] ms s.named s.list (set_fresh rank Names low high (get_member k ms) entries s)
+    ∙ ap Ok (set_put rank Names low high (get_member k ms) entries s)
 
 -- ---- what follows
 
@@ -279,42 +279,15 @@ said_of {X} Says (item d ds) (y ∷ ys) x h found = by_place (λ later. said_of 
     by_place rest (inl same) = (d, subst (Says d) same h.0)
     by_place rest (inr later) = rest later
 
-pub set_count : {E : Type 0} (rank : E → ℕ) (lookup : List ℕ → Option E) (low high : ℕ) (v : Option Data) (entries : List E) → HasSet rank lookup low high v entries → (low ≤ length entries) × (length entries ≤ high)
-set_count rank lookup low high v entries s =
-    let put : length (put_all (put_in rank) [] s.named) ≡ length entries = ap length (set_put rank lookup low high v entries s) in
+pub set_count : {E : Type 0} (rank : E → ℕ) (Names : List ℕ → E → Type 0) (low high : ℕ) (v : Option Data) (entries : List E) → HasSet rank Names low high v entries → (low ≤ length entries) × (length entries ≤ high)
+set_count rank Names low high v entries s =
+    let put : length (put_all (put_in rank) [] s.named) ≡ length entries = ap length (set_put rank Names low high v entries s) in
     let count = length_of_put rank [] s.named in
-    let said = length_of_said (SaysEntry lookup) s.list.items s.named s.list.each in
+    let said = length_of_said (SaysEntry Names) s.list.items s.named s.list.each in
     (omega (arith, put, count, said, s.list.least), omega (arith, put, count, said, s.list.most))
 
-pub set_found : {E : Type 0} (rank : E → ℕ) (lookup : List ℕ → Option E) (low high : ℕ) (v : Option Data) (entries : List E) → HasSet rank lookup low high v entries → All (λ e. (text : List ℕ) × (lookup text ≡ Some e)) entries
-set_found rank lookup low high v entries s =
-    all_of (λ e. (text : List ℕ) × (lookup text ≡ Some e)) entries (λ e h.
-    let said = said_of (SaysEntry lookup) s.list.items s.named e s.list.each ((s.same e).0 h) in
+pub set_found : {E : Type 0} (rank : E → ℕ) (Names : List ℕ → E → Type 0) (low high : ℕ) (v : Option Data) (entries : List E) → HasSet rank Names low high v entries → All (λ e. (text : List ℕ) × Names text e) entries
+set_found rank Names low high v entries s =
+    all_of (λ e. (text : List ℕ) × Names text e) entries (λ e h.
+    let said = said_of (SaysEntry Names) s.list.items s.named e s.list.each ((s.same e).0 h) in
     (said.1.0, said.1.2))
-
--- ---- a place that is a number of this size
-
-option_is : {A : Type 0} (a b : A) → ◌≡◌ {A = Option A} (Some a) (Some b) → a ≡ b
-option_is a b e = cc
-
-position_bound : {X : Type 0} (p : X → Bool) (xs : List X) (i : ℕ) → position p xs ≡ Some i → i < length xs
-position_bound p xs i e = by_test (nat_lt (position_or_len p xs) (length xs)) (λ t. ltb-true _ (length xs) t) e
-  where
-    by_test : (b : Bool) → (b ≡ true → position_or_len p xs < length xs) → cond b (Some (position_or_len p xs)) None ≡ Some i → i < length xs
-    by_test true f e = subst (λ j. j < length xs) (option_is _ _ e) (f refl)
-    by_test false f e = absurd cc
-
-below_bound : (bound n i : ℕ) → below bound n ≡ Some i → (n ≡ i) × (i < bound)
-below_bound bound n i e = by_test (nat_lt n bound) (λ t. ltb-true n bound t) e
-  where
-    by_test : (b : Bool) → (b ≡ true → n < bound) → cond b (Some n) None ≡ Some i → (n ≡ i) × (i < bound)
-    by_test true f e = (option_is _ _ e, subst (λ j. j < bound) (option_is _ _ e) (f refl))
-    by_test false f e = absurd cc
-
-pub place_below_bound : (bound : ℕ) (names : List (List ℕ)) (text : List ℕ) (i : ℕ) → place_below bound names text ≡ Some i → (i < length names) × (i < bound)
-unfolding place_below place_of
-place_below_bound bound names text i e = of_place (place_of names text) (λ n h. position_bound _ names n h) e
-  where
-    of_place : (o : Option ℕ) → ((n : ℕ) → o ≡ Some n → n < length names) → option_and_then (below bound) o ≡ Some i → (i < length names) × (i < bound)
-    of_place None f e = absurd cc
-    of_place (Some n) f e = let b = below_bound bound n i e in (subst (λ j. j < length names) b.0 (f n refl), b.1)

@@ -74,8 +74,9 @@ object v = wanted (option_and_then as_object v)
 abbrev pub at : {A : Type 0} → List ℕ → Members → (Option Data → Result A Fault) → Result A Fault
 at k ms check = within (Key k) (check (get_member k ms))
 
+-- one of the texts
 unfoldable pub is_listed : List (List ℕ) → List ℕ → Bool
-is_listed keys k = list_any (λ other. bytes_eq other k) keys
+is_listed texts text = list_any (λ other. bytes_eq other text) texts
 
 -- no key but these: the members are in byte order of their keys, so the fault is at the first other one
 unfoldable pub only : List (List ℕ) → Members → Result ⊤ Fault

@@ -1,12 +1,13 @@
 -- What a document's values say, form by form: no order of checks, and no faults.
-use Rattle.std.specs.Prelude.{◌≡◌, ◌≢◌, ◌≤◌, ◌↔◌, ℕ, true, List, [], ◌∷◌, ◌++◌, map, Option, Some}
+use Rattle.std.specs.Prelude.{◌≡◌, ◌≢◌, ◌≤◌, ◌↔◌, ℕ, List, [], ◌∷◌, ◌++◌, map, slice_get, Option, Some}
 use Rattle.std.specs.List.{All, Contains}
 use Rattle.serde_json.specs.Data.{Data, number, unsigned, string, array, Items, no_items, item, Members, no_members, member}
 use Rattle.serde_json.specs.Events.{items_len}
 use Rattle.txn_types.specs.Names.{IsName}
+use Rattle.txn_types.specs.declared.message.Node.{Node}
+use Rattle.txn_types.specs.declared.message.Node.TheVariants.{Peer, Orderer}
 use Rattle.txn_types.specs.Rising.{IsRising}
 use Rattle.oxii_defs.specs.WellFormed.{AllDiffer}
-use Rattle.doc_forms.specs.Forms.{is_listed}
 
 -- a whole number in a range
 abbrev pub HasNumber : ℕ → ℕ → Option Data → ℕ → Type 0
@@ -20,14 +21,23 @@ HasText v text = v ≡ Some (string text)
 abbrev pub HasName : Option Data → List ℕ → Type 0
 HasName v text = HasText v text × IsName text
 
--- a name that leads to an entry
-abbrev pub HasReference : {E : Type 0} → (List ℕ → Option E) → Option Data → E → Type 0
-HasReference lookup v e = (text : List ℕ) × HasName v text × (lookup text ≡ Some e)
+-- a name is that of the entry with this number
+abbrev pub IsNameAt : List (List ℕ) → List ℕ → ℕ → Type 0
+IsNameAt names text i = slice_get names i ≡ Some text
+
+-- a name is that of a peer or of an orderer
+abbrev pub IsNodeName : List (List ℕ) → List (List ℕ) → List ℕ → Node → Type 0
+IsNodeName orderers peers text (Peer p) = IsNameAt peers text p
+IsNodeName orderers peers text (Orderer o) = IsNameAt orderers text o
+
+-- the name of an entry
+abbrev pub HasReference : {E : Type 0} → (List ℕ → E → Type 0) → Option Data → E → Type 0
+HasReference Names v e = (text : List ℕ) × HasName v text × Names text e
 
 -- an object has no keys but these
 abbrev pub HasOnly : List (List ℕ) → Members → Type 0
 HasOnly keys no_members = Unit {0}
-HasOnly keys (member k d ms) = (is_listed keys k ≡ true) × HasOnly keys ms
+HasOnly keys (member k d ms) = Contains keys k × HasOnly keys ms
 
 -- item by item
 abbrev pub EachSays : {X : Type 0} → (Data → X → Type 0) → Items → List X → Type 0
@@ -57,14 +67,14 @@ abbrev pub RanksDiffer : {E : Type 0} → (E → ℕ) → List E → Type 0
 RanksDiffer rank [] = Unit {0}
 RanksDiffer rank (e ∷ rest) = All (λ other. rank other ≢ rank e) rest × RanksDiffer rank rest
 
--- an item that leads to an entry
-abbrev pub SaysEntry : {E : Type 0} → (List ℕ → Option E) → Data → E → Type 0
-SaysEntry lookup d e = HasReference lookup (Some d) e
+-- an item that is the name of an entry
+abbrev pub SaysEntry : {E : Type 0} → (List ℕ → E → Type 0) → Data → E → Type 0
+SaysEntry Names d e = HasReference Names (Some d) e
 
--- a set: the entries that the items lead to, which differ, in rising order
-pub record HasSet {E : Type 0} (rank : E → ℕ) (lookup : List ℕ → Option E) (low high : ℕ) (v : Option Data) (entries : List E) : Type 0 where
+-- a set: the entries that the items name, which differ, in rising order
+pub record HasSet {E : Type 0} (rank : E → ℕ) (Names : List ℕ → E → Type 0) (low high : ℕ) (v : Option Data) (entries : List E) : Type 0 where
   pub named : List E
-  pub list : HasList (SaysEntry lookup) low high v named
+  pub list : HasList (SaysEntry Names) low high v named
   pub differ : RanksDiffer rank named
   pub rising : IsRising (map rank entries)
   pub same : (e : E) → Contains entries e ↔ Contains named e

@@ -8,11 +8,7 @@ use Rattle.txn_types.specs.declared.message.Node.TheVariants.{Peer, Orderer}
 use Rattle.serde_json.specs.Data.{Data}
 use Rattle.doc_forms.specs.Faults.{Fault, Name, Double}
 use Rattle.doc_forms.specs.Check.{◌>>=◌}
-use Rattle.doc_forms.specs.Forms.{name}
-
--- one of the names
-unfoldable pub has_name : List (List ℕ) → List ℕ → Bool
-has_name names text = list_any (λ other. bytes_eq other text) names
+use Rattle.doc_forms.specs.Forms.{name, is_listed}
 
 -- the place of a name in a table
 unfoldable pub place_of : List (List ℕ) → List ℕ → Option ℕ
@@ -34,7 +30,7 @@ node_named orderers peers text = option_or (option_map Peer (place_below 256 pee
 unfoldable pub new_name : List (List ℕ) → List (List ℕ) → Data → Result (List (List ℕ)) Fault
 new_name taken before d = do
   text ← name (Some d)
-  if has_name taken text || has_name before text then Err (Double []) else Ok (before ++ text ∷ [])
+  if is_listed taken text || is_listed before text then Err (Double []) else Ok (before ++ text ∷ [])
 
 abbrev pub found : {E : Type 0} → Option E → Result E Fault
 found (Some e) = Ok e

@@ -4,8 +4,8 @@ ghost use Rattle.std.specs.Prelude.{◌≡◌, ◌≤◌, ℕ, List, Option, len
 ghost use Rattle.serde_json.specs.View.{view};
 ghost use Rattle.txn_types.specs.Nodes.{rank_of};
 ghost use Rattle.doc_forms.specs.Check.{Gives};
-ghost use Rattle.doc_forms.specs.Forms.{seen};
-ghost use Rattle.doc_forms.specs.Tables.{has_name, place_of, place_below, node_named, new_name, reference, has_rank, count_below, new_reference};
+ghost use Rattle.doc_forms.specs.Forms.{seen, is_listed};
+ghost use Rattle.doc_forms.specs.Tables.{place_of, place_below, node_named, new_name, reference, has_rank, count_below, new_reference};
 
 use crate::fault::DocFault;
 use crate::forms::{double_fault, name, name_fault};
@@ -15,9 +15,9 @@ use std::alloc::Global;
 use txn_types::{GrowingList, Name, Names, Node, Ranked};
 
 /// Whether it is one of the names.
-#[tactic(auto, unfolding(crate::specs::Tables::has_name))]
+#[tactic(auto, unfolding(crate::specs::Forms::is_listed))]
 pub fn has_name(names: &[Name], text: &[u8]) -> bool
-    ensures { result ≡ has_name names.now text.now }
+    ensures { result ≡ is_listed names.now text.now }
 {
     names.iter().any(|other| other.as_slice() == text)
 }
@@ -45,25 +45,25 @@ impl<'t> Turn for NewName<'t> {
 }
 
 /// What a reference leads to.
-pub trait Entry: Ranked {
+pub trait Target: Ranked {
     /// Its rank.
     fn rank(self) -> u32
         ensures { result ≡ Self.rank self };
 }
 
-impl Entry for u8 {
+impl Target for u8 {
     fn rank(self) -> u32 {
         u32::from(self)
     }
 }
 
-impl Entry for u16 {
+impl Target for u16 {
     fn rank(self) -> u32 {
         u32::from(self)
     }
 }
 
-impl Entry for Node {
+impl Target for Node {
     fn rank(self) -> u32 {
         match self {
             Node::Peer(p) => u32::from(p),
@@ -73,13 +73,13 @@ impl Entry for Node {
 }
 
 /// Names that lead to entries.
-pub trait Table {
-    type Entry: Entry;
+pub trait NamedTable {
+    type Target: Target;
 
-    ghost lookup: { Self → List ℕ → Option Self.Entry };
+    ghost lookup: { Self → List ℕ → Option Self.Target };
 
     /// The entry with this name.
-    fn find(&self, text: &[u8]) -> Option<Self::Entry>
+    fn find(&self, text: &[u8]) -> Option<Self::Target>
         ensures { result ≡ lookup self.now text.now };
 }
 
@@ -91,8 +91,8 @@ fn place_of(names: &[Name], text: &[u8]) -> Option<usize>
 }
 
 /// Names as they stand in the document, whose places are numbers of 8 bits.
-impl Table for Names {
-    type Entry = u8;
+impl NamedTable for Names {
+    type Target = u8;
 
     ghost lookup = { λ names. place_below 256 names };
 
@@ -103,15 +103,15 @@ impl Table for Names {
     }
 }
 
-/// The orderers and the peers of a document, whose names differ.
+/// The names of the orderers and of the peers of a document, which differ.
 #[derive(Clone, Copy, Drop)]
-pub struct Nodes<'t> {
+pub struct NodeNames<'t> {
     pub orderers: &'t Names,
     pub peers: &'t Names,
 }
 
-impl<'t> Table for Nodes<'t> {
-    type Entry = Node;
+impl<'t> NamedTable for NodeNames<'t> {
+    type Target = Node;
 
     ghost lookup = { λ nodes. node_named nodes.orderers.now nodes.peers.now };
 
@@ -129,11 +129,11 @@ impl<'t> Table for Nodes<'t> {
 
 /// A reference to an entry of a table.
 #[tactic(auto, unfolding(crate::specs::Tables::reference))]
-pub fn reference<T: Table>(
+pub fn reference<T: NamedTable>(
     alloc: Global,
     table: &T,
     value: Option<&Value>,
-) -> Result<T::Entry, DocFault>
+) -> Result<T::Target, DocFault>
     ensures { Gives (λ e. e) result (reference (T.lookup table.now) (seen value.entry)) }
 {
     let text = name(alloc, value)?;
@@ -144,14 +144,14 @@ pub fn reference<T: Table>(
 }
 
 #[tactic(auto, unfolding(crate::specs::Tables::has_rank))]
-fn has_rank<E: Entry>(entries: &[E], rank: u32) -> bool
+fn has_rank<E: Target>(entries: &[E], rank: u32) -> bool
     ensures { result ≡ has_rank E.rank entries.now rank }
 {
     entries.iter().any(|other| other.rank() == rank)
 }
 
 #[tactic(auto, unfolding(crate::specs::Tables::count_below))]
-fn count_below<E: Entry>(entries: &[E], rank: u32) -> usize
+fn count_below<E: Target>(entries: &[E], rank: u32) -> usize
     ensures count { result ≡ count_below E.rank entries.now rank }
     ensures bound { result ≤ length entries.now }
 {
@@ -164,18 +164,18 @@ pub struct NewReference<'t, T> {
     pub table: &'t T,
 }
 
-impl<'t, T: Table> Turn for NewReference<'t, T> {
-    type State = GrowingList<T::Entry>;
+impl<'t, T: NamedTable> Turn for NewReference<'t, T> {
+    type State = GrowingList<T::Target>;
 
-    ghost check = { λ s. new_reference T.Entry.rank (T.lookup s.table.now) };
+    ghost check = { λ s. new_reference T.Target.rank (T.lookup s.table.now) };
 
     #[tactic(auto, unfolding(crate::specs::Tables::new_reference))]
     fn turn(
         &self,
         alloc: Global,
-        mut done: GrowingList<T::Entry>,
+        mut done: GrowingList<T::Target>,
         item: &Value,
-    ) -> Result<GrowingList<T::Entry>, DocFault> {
+    ) -> Result<GrowingList<T::Target>, DocFault> {
         let entry = reference(alloc, self.table, Some(item))?;
         let rank = entry.rank();
         if has_rank(done.as_slice(), rank) {

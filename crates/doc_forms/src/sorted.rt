@@ -5,7 +5,7 @@ ghost use Rattle.std.specs.List.{insert};
 ghost use Rattle.doc_forms.specs.Tables.{place_of, place_below};
 ghost use Rattle.doc_forms.specs.Sorted.{IsInOrder, IsGap, gap_of, order};
 
-use crate::references::Table;
+use crate::references::NamedTable;
 use std::alloc::Global;
 use std::cmp::Ordering;
 use std::marker::Model;
@@ -80,8 +80,8 @@ impl SortedNames {
 }
 
 /// Names in byte order, whose places are numbers of 16 bits.
-impl Table for SortedNames {
-    type Entry = u16;
+impl NamedTable for SortedNames {
+    type Target = u16;
 
     ghost lookup = { λ names. place_below 65536 names };
 

@@ -1,8 +1,9 @@
 -- The keys of a `block` event are read exactly where they say it.
-use Rattle.std.proofs.Common.{◌≡◌, ℕ, ◌+◌, ◌≤◌, ◌==◌, ◌&&◌, ltb, Bool, true, false, cond, List, [], ◌∷◌, length, Option, Some, None, Result, Ok, Err, refl, sym, ap, subst, ◌∙◌, arith}
+use Rattle.std.proofs.Common.{◌≡◌, ℕ, ◌+◌, ◌≤◌, ◌==◌, ◌&&◌, ltb, Bool, true, false, cond, List, [], ◌∷◌, length, map, Option, Some, None, Result, Ok, Err, refl, sym, ap, subst, ◌∙◌, arith}
 use Rattle.std.specs.Prelude.{codes, slice_get}
 use Rattle.std.specs.Str.{bytes_eq}
 use Rattle.std.proofs.lemmas.Bool.{eqb-true}
+use Rattle.std.proofs.lemmas.List.{length-map}
 use Rattle.std.proofs.lemmas.Slice.Eq.{bytes_eq-Decides}
 use Rattle.serde_json.specs.Data.{Data, string, array, Items, no_items, item, Members}
 use Rattle.serde_json.specs.Find.{get_member, as_array, as_str}
@@ -10,6 +11,7 @@ use Rattle.serde_json.specs.Events.{items_len}
 use Rattle.hex.specs.Hex.{decode_sized, encode_lower, IsBytes}
 use Rattle.hex.specs.declared.error.FromHexError.{FromHexError}
 use Rattle.hex.proofs.HexLemmas.{decode_sized-ok, decode_sized-twice, decode_of-ok, decode_sized-encode_lower}
+use Rattle.txn_types.specs.declared.stream.Piece.{Piece}
 use Rattle.doc_forms.specs.declared.fault.Step.TheVariants.{Key}
 use Rattle.doc_forms.specs.declared.fault.Which.TheVariants as word
 use Rattle.doc_forms.specs.Faults.{Fault}
@@ -19,46 +21,35 @@ use Rattle.doc_forms.specs.Meaning.{HasOnly, EachSays, HasList}
 use Rattle.doc_forms.proofs.Meant.{bind_ok, within_ok, wanted_ok, text_is, array_is, failed, both, same_ok, only_means, only_reads, passed}
 use Rattle.doc_forms.proofs.EachMeant.{IsStep, at_end, any, list_in_means, list_in_reads}
 use Rattle.doc_forms.proofs.SetsMeant.{length_of_said}
-use Rattle.doc_schedule.specs.declared.tables.Slot.{Slot}
-use Rattle.doc_schedule.specs.declared.tables.Slot.TheVariants.{Barred, Call, Config}
+use Rattle.doc_schedule.specs.declared.tables.ItemRole.{ItemRole}
 use Rattle.doc_schedule.specs.Places.{place_in}
 use Rattle.doc_schedule.specs.Hashes.{if_lower, hash_of, prev, prev_at}
 use Rattle.doc_schedule.specs.Blocks.{may_stand, next_txn, txns_within, txns_of, txns_at, next_pred, next_preds, are_arrays, lists_of, preds, count_of, preds_at, links_at}
-use Rattle.doc_schedule.specs.ScheduleMeaning.{HasPlace, MayHave, MayStand, SaysItem, SaysHash, SaysPred, SaysPreds, SaysGraph}
+use Rattle.doc_schedule.specs.Tables.{role_of}
+use Rattle.doc_schedule.specs.ScheduleMeaning.{HasPlace, MayHave, SaysNamedItem, txns_among, SaysHash, SaysPred, SaysPreds, SaysGraph}
 use Rattle.doc_schedule.proofs.TablesMeant.{eqb-same}
+use Rattle.doc_schedule.proofs.RolesMeant.{may_stand_means, may_stand_reads, AreNamedAmong, count_is}
 use Rattle.doc_schedule.proofs.EndsMeant.{gives, not_above, test_above, each_end_means, each_end_reads, list_end_means, list_end_reads, place_means, place_reads}
 
 -- ---- items
 
 -- the number of an item that may stand, as the test tells
-abbrev pub Stands : List Slot → Bool → Data → ℕ → Type 0
-Stands slots alone d i = HasPlace (length slots) (Some d) i × (may_stand alone (slice_get slots i) ≡ true)
+abbrev pub Stands : List ItemRole → Bool → Data → ℕ → Type 0
+Stands roles alone d i = HasPlace (length roles) (Some d) i × (may_stand alone (slice_get roles i) ≡ true)
 
-next_txn_means : (slots : List Slot) (alone : Bool) (before after : List ℕ) (d : Data) → next_txn slots alone before d ≡ Ok after → (i : ℕ) × Stands slots alone d i × any before i × (at_end before i ≡ after)
+next_txn_means : (roles : List ItemRole) (alone : Bool) (before after : List ℕ) (d : Data) → next_txn roles alone before d ≡ Ok after → (i : ℕ) × Stands roles alone d i × any before i × (at_end before i ≡ after)
 unfolding next_txn
-next_txn_means slots alone before after d e =
-    let i = bind_ok (place_in (length slots) word.Item (Some d)) _ after e in
-    let p = passed (may_stand alone (slice_get slots i.0)) (at_end before i.0) after _ i.2 in
-    (i.0, (place_means (length slots) word.Item (Some d) i.0 i.1, p.0), tt, p.1)
+next_txn_means roles alone before after d e =
+    let i = bind_ok (place_in (length roles) word.Item (Some d)) _ after e in
+    let p = passed (may_stand alone (slice_get roles i.0)) (at_end before i.0) after _ i.2 in
+    (i.0, (place_means (length roles) word.Item (Some d) i.0 i.1, p.0), tt, p.1)
 
-next_txn_reads : (slots : List Slot) (alone : Bool) (before : List ℕ) (d : Data) (i : ℕ) → Stands slots alone d i → any before i → next_txn slots alone before d ≡ Ok (at_end before i)
+next_txn_reads : (roles : List ItemRole) (alone : Bool) (before : List ℕ) (d : Data) (i : ℕ) → Stands roles alone d i → any before i → next_txn roles alone before d ≡ Ok (at_end before i)
 unfolding next_txn
-next_txn_reads slots alone before d i h u = rw (place_reads (length slots) word.Item (Some d) i h.0, h.1) refl
+next_txn_reads roles alone before d i h u = rw (place_reads (length roles) word.Item (Some d) i h.0, h.1) refl
 
-pub txn_step : (slots : List Slot) (alone : Bool) → IsStep (next_txn slots alone) (Stands slots alone) at_end any
-txn_step slots alone = record { means = next_txn_means slots alone; reads = next_txn_reads slots alone }
-
-may_stand_means : (count : ℕ) (s : Option Slot) → may_stand (count == 1) s ≡ true → MayStand count s
-may_stand_means count None e = absurd cc
-may_stand_means count (Some Barred) e = absurd cc
-may_stand_means count (Some Call) e = tt
-may_stand_means count (Some Config) e = eqb-true count 1 e
-
-may_stand_reads : (count : ℕ) (s : Option Slot) → MayStand count s → may_stand (count == 1) s ≡ true
-may_stand_reads count None h = absurd h
-may_stand_reads count (Some Barred) h = absurd h
-may_stand_reads count (Some Call) h = refl
-may_stand_reads count (Some Config) h = rw h refl
+pub txn_step : (roles : List ItemRole) (alone : Bool) → IsStep (next_txn roles alone) (Stands roles alone) at_end any
+txn_step roles alone = record { means = next_txn_means roles alone; reads = next_txn_reads roles alone }
 
 -- what each item says, in other words
 each_said : {X : Type 0} (P Q : Data → X → Type 0) → ((d : Data) (x : X) → P d x → Q d x) → (ds : Items) (xs : List X) → EachSays P ds xs → EachSays Q ds xs
@@ -67,35 +58,55 @@ each_said P Q f no_items (x ∷ xs) h = absurd h
 each_said P Q f (item d ds) [] h = absurd h
 each_said P Q f (item d ds) (x ∷ xs) h = (f d x h.0, each_said P Q f ds xs h.1)
 
-items_mean : (slots : List Slot) (total : ℕ) (v : Option Data) (items : List ℕ) → txns_of slots total v ≡ Ok items → HasList (SaysItem slots (length items)) 1 256 v items × (total + length items ≤ 16384)
+-- an item as a test over roles tells it, and as its piece does
+stands_means : (pieces : List (Option Piece)) (count : ℕ) (d : Data) (i : ℕ) → Stands (map role_of pieces) (count == 1) d i → SaysNamedItem pieces count d i
+stands_means pieces count d i h = (subst (λ n. HasPlace n (Some d) i) (length-map pieces role_of) h.0, may_stand_means count pieces i h.1)
+
+stands_reads : (pieces : List (Option Piece)) (count : ℕ) (d : Data) (i : ℕ) → SaysNamedItem pieces count d i → Stands (map role_of pieces) (count == 1) d i
+stands_reads pieces count d i h = (subst (λ n. HasPlace n (Some d) i) (sym (length-map pieces role_of)) h.0, may_stand_reads count pieces i h.1)
+
+items_mean : (pieces : List (Option Piece)) (total : ℕ) (v : Option Data) (items : List ℕ) → txns_of (map role_of pieces) total v ≡ Ok items → HasList (SaysNamedItem pieces (length items)) 1 256 v items × (total + length items ≤ 16384)
 unfolding txns_of txns_within
-items_mean slots total v items e =
+items_mean pieces total v items e =
+    let roles = map role_of pieces in
     let ds = bind_ok (list_in 1 256 word.Txns v) _ items e in
     let l = list_in_means 1 256 word.Txns v ds.0 ds.1 in
     let t = failed (ltb 16384 (total + items_len ds.0)) _ items _ ds.2 in
-    let say = each_end_means (next_txn slots (items_len ds.0 == 1)) (Stands slots (items_len ds.0 == 1)) (txn_step slots (items_len ds.0 == 1)) ds.0 items t.1 in
-    let count = length_of_said (Stands slots (items_len ds.0 == 1)) ds.0 items say in
-    let told = each_said (Stands slots (items_len ds.0 == 1)) (SaysItem slots (items_len ds.0)) (λ d i h. (h.0, may_stand_means (items_len ds.0) (slice_get slots i) h.1)) ds.0 items say in
+    let say = each_end_means (next_txn roles (items_len ds.0 == 1)) (Stands roles (items_len ds.0 == 1)) (txn_step roles (items_len ds.0 == 1)) ds.0 items t.1 in
+    let count = length_of_said (Stands roles (items_len ds.0 == 1)) ds.0 items say in
+    let told = each_said (Stands roles (items_len ds.0 == 1)) (SaysNamedItem pieces (items_len ds.0)) (stands_means pieces (items_len ds.0)) ds.0 items say in
     let few = not_above 16384 (total + items_len ds.0) t.0 in
-    (record { items = ds.0; is = l.0; least = l.1; most = l.2; each = subst (λ n. EachSays (SaysItem slots n) ds.0 items) (sym count) told }, omega (arith, few, count))
+    (record { items = ds.0; is = l.0; least = l.1; most = l.2; each = subst (λ n. EachSays (SaysNamedItem pieces n) ds.0 items) (sym count) told }, omega (arith, few, count))
 
-items_read : (slots : List Slot) (total : ℕ) (v : Option Data) (items : List ℕ) → HasList (SaysItem slots (length items)) 1 256 v items → total + length items ≤ 16384 → txns_of slots total v ≡ Ok items
+items_read : (pieces : List (Option Piece)) (total : ℕ) (v : Option Data) (items : List ℕ) → HasList (SaysNamedItem pieces (length items)) 1 256 v items → total + length items ≤ 16384 → txns_of (map role_of pieces) total v ≡ Ok items
 unfolding txns_of txns_within
-items_read slots total v items h few =
-    let count = length_of_said (SaysItem slots (length items)) h.items items h.each in
-    let say = subst (λ n. EachSays (SaysItem slots n) h.items items) count h.each in
-    let told = each_said (SaysItem slots (items_len h.items)) (Stands slots (items_len h.items == 1)) (λ d i s. (s.0, may_stand_reads (items_len h.items) (slice_get slots i) s.1)) h.items items say in
+items_read pieces total v items h few =
+    let roles = map role_of pieces in
+    let count = length_of_said (SaysNamedItem pieces (length items)) h.items items h.each in
+    let say = subst (λ n. EachSays (SaysNamedItem pieces n) h.items items) count h.each in
+    let told = each_said (SaysNamedItem pieces (items_len h.items)) (Stands roles (items_len h.items == 1)) (stands_reads pieces (items_len h.items)) h.items items say in
     let test = test_above 16384 (total + items_len h.items) (omega (arith, few, count)) in
     rw (list_in_reads 1 256 word.Txns v h.items h.is h.least h.most, test)
-    (each_end_reads (next_txn slots (items_len h.items == 1)) (Stands slots (items_len h.items == 1)) (txn_step slots (items_len h.items == 1)) h.items items told)
+    (each_end_reads (next_txn roles (items_len h.items == 1)) (Stands roles (items_len h.items == 1)) (txn_step roles (items_len h.items == 1)) h.items items told)
 
-pub txns_at_mean : (slots : List Slot) (total : ℕ) (ms : Members) (items : List ℕ) → txns_at slots total ms ≡ Ok items → HasList (SaysItem slots (length items)) 1 256 (get_member (codes "txns") ms) items × (total + length items ≤ 16384)
+pub txns_at_mean : (pieces : List (Option Piece)) (total : ℕ) (ms : Members) (items : List ℕ) → txns_at (map role_of pieces) total ms ≡ Ok items → HasList (SaysNamedItem pieces (length items)) 1 256 (get_member (codes "txns") ms) items × (total + length items ≤ 16384)
 unfolding txns_at
-txns_at_mean slots total ms items e = items_mean slots total (get_member (codes "txns") ms) items (within_ok (Key (codes "txns")) (txns_of slots total (get_member (codes "txns") ms)) items e)
+txns_at_mean pieces total ms items e = items_mean pieces total (get_member (codes "txns") ms) items (within_ok (Key (codes "txns")) (txns_of (map role_of pieces) total (get_member (codes "txns") ms)) items e)
 
-pub txns_at_read : (slots : List Slot) (total : ℕ) (ms : Members) (items : List ℕ) → HasList (SaysItem slots (length items)) 1 256 (get_member (codes "txns") ms) items → total + length items ≤ 16384 → txns_at slots total ms ≡ Ok items
+pub txns_at_read : (pieces : List (Option Piece)) (total : ℕ) (ms : Members) (items : List ℕ) → HasList (SaysNamedItem pieces (length items)) 1 256 (get_member (codes "txns") ms) items → total + length items ≤ 16384 → txns_at (map role_of pieces) total ms ≡ Ok items
 unfolding txns_at
-txns_at_read slots total ms items h few = rw (items_read slots total (get_member (codes "txns") ms) items h few) refl
+txns_at_read pieces total ms items h few = rw (items_read pieces total (get_member (codes "txns") ms) items h few) refl
+
+-- ---- how many transactions the items carry
+
+said_named : (pieces : List (Option Piece)) (count : ℕ) (ds : Items) (items : List ℕ) → EachSays (SaysNamedItem pieces count) ds items → AreNamedAmong pieces count items
+said_named pieces count no_items [] h = tt
+said_named pieces count no_items (i ∷ items) h = absurd h
+said_named pieces count (item d ds) [] h = absurd h
+said_named pieces count (item d ds) (i ∷ items) h = (h.0.1, said_named pieces count ds items h.1)
+
+pub count_said : (pieces : List (Option Piece)) (v : Option Data) (items : List ℕ) → HasList (SaysNamedItem pieces (length items)) 1 256 v items → count_of (map role_of pieces) items ≡ txns_among pieces items
+count_said pieces v items h = count_is pieces items (said_named pieces (length items) h.items items h.each)
 
 -- ---- the previous hash
 
@@ -231,22 +242,22 @@ preds_read count (Some d) (Some gs) h =
 abbrev pub BlockOnly : Members → Type 0
 BlockOnly ms = HasOnly (codes "do" ∷ codes "from" ∷ codes "number" ∷ codes "txns" ∷ codes "prev" ∷ codes "preds" ∷ []) ms
 
-pub links_mean : (slots : List Slot) (items : List ℕ) (ms : Members) (links : Option (List ℕ) × Option (List (List ℕ))) → links_at slots items ms ≡ Ok links
-    → MayHave SaysHash (get_member (codes "prev") ms) links.0 × MayHave (SaysGraph (count_of slots items)) (get_member (codes "preds") ms) links.1 × BlockOnly ms
+pub links_mean : (roles : List ItemRole) (items : List ℕ) (ms : Members) (links : Option (List ℕ) × Option (List (List ℕ))) → links_at roles items ms ≡ Ok links
+    → MayHave SaysHash (get_member (codes "prev") ms) links.0 × MayHave (SaysGraph (count_of roles items)) (get_member (codes "preds") ms) links.1 × BlockOnly ms
 unfolding links_at prev_at preds_at
-links_mean slots items ms links e =
+links_mean roles items ms links e =
     let hash = bind_ok (prev_at ms) _ links e in
-    let graph = bind_ok (preds_at slots items ms) _ links hash.2 in
+    let graph = bind_ok (preds_at roles items ms) _ links hash.2 in
     let end = bind_ok (form.only _ ms) _ links graph.2 in
     let is = same_ok (hash.0, graph.0) links (gives (hash.0, graph.0)) refl end.2 in
-    subst (λ (l : Option (List ℕ) × Option (List (List ℕ))). MayHave SaysHash (get_member (codes "prev") ms) l.0 × MayHave (SaysGraph (count_of slots items)) (get_member (codes "preds") ms) l.1 × BlockOnly ms) is (
+    subst (λ (l : Option (List ℕ) × Option (List (List ℕ))). MayHave SaysHash (get_member (codes "prev") ms) l.0 × MayHave (SaysGraph (count_of roles items)) (get_member (codes "preds") ms) l.1 × BlockOnly ms) is (
       prev_means _ hash.0 (within_ok (Key (codes "prev")) (prev (get_member (codes "prev") ms)) hash.0 hash.1),
-      preds_mean (count_of slots items) _ graph.0 (within_ok (Key (codes "preds")) (preds (count_of slots items) (get_member (codes "preds") ms)) graph.0 graph.1),
+      preds_mean (count_of roles items) _ graph.0 (within_ok (Key (codes "preds")) (preds (count_of roles items) (get_member (codes "preds") ms)) graph.0 graph.1),
       only_means _ ms end.0 end.1,
     )
 
-pub links_read : (slots : List Slot) (items : List ℕ) (ms : Members) (hash : Option (List ℕ)) (graph : Option (List (List ℕ)))
-    → MayHave SaysHash (get_member (codes "prev") ms) hash → MayHave (SaysGraph (count_of slots items)) (get_member (codes "preds") ms) graph → BlockOnly ms → links_at slots items ms ≡ Ok (hash, graph)
+pub links_read : (roles : List ItemRole) (items : List ℕ) (ms : Members) (hash : Option (List ℕ)) (graph : Option (List (List ℕ)))
+    → MayHave SaysHash (get_member (codes "prev") ms) hash → MayHave (SaysGraph (count_of roles items)) (get_member (codes "preds") ms) graph → BlockOnly ms → links_at roles items ms ≡ Ok (hash, graph)
 unfolding links_at prev_at preds_at
-links_read slots items ms hash graph p g only =
-    rw (prev_reads (get_member (codes "prev") ms) hash p, preds_read (count_of slots items) (get_member (codes "preds") ms) graph g, only_reads _ ms only) refl
+links_read roles items ms hash graph p g only =
+    rw (prev_reads (get_member (codes "prev") ms) hash p, preds_read (count_of roles items) (get_member (codes "preds") ms) graph g, only_reads _ ms only) refl

@@ -11,6 +11,7 @@ use Rattle.txn_types.specs.declared.txn.Reason.TheVariants.{Require, Overflow, U
 use Rattle.txn_types.specs.declared.txn.Outcome.{Outcome}
 use Rattle.txn_types.specs.declared.txn.Outcome.TheVariants.{Commit, Abort}
 use Rattle.txn_types.specs.declared.message.Vote.{Vote}
+use Rattle.oxii_defs.specs.Lines.{reason_word}
 use Rattle.doc_forms.specs.declared.fault.Step.TheVariants.{Key}
 use Rattle.doc_forms.specs.declared.fault.Which.TheVariants as word
 use Rattle.doc_forms.specs.Forms as form
@@ -21,7 +22,7 @@ use Rattle.doc_forms.proofs.EachMeant.{IsStep, at_end, any, list_in_means, list_
 use Rattle.doc_forms.proofs.SetsMeant.{length_of_said}
 use Rattle.doc_schedule.specs.Places.{place_in}
 use Rattle.doc_schedule.specs.Votes.{reason_of, reason, next_out, outs, committed, aborted, outcome_by, vote, next_vote, votes_within, votes_of, votes_at}
-use Rattle.doc_schedule.specs.ScheduleMeaning.{SaysWritten, word_of, SaysOutcome, commit, abort, VoteKeys, SaysVote}
+use Rattle.doc_schedule.specs.ScheduleMeaning.{SaysWritten, SaysOutcome, commit, abort, VoteKeys, SaysVote}
 use Rattle.doc_schedule.proofs.EndsMeant.{gives, not_above, test_above, each_end_means, each_end_reads, list_end_means, list_end_reads, place_means, place_reads}
 
 -- entries
@@ -66,22 +67,22 @@ pub chosen : {A : Type 0} (P : A → Type 0) (b : Bool) (x : A) (rest : Option A
 chosen P true x rest y here later e = subst P (same_some x y e) (here refl)
 chosen P false x rest y here later e = later e
 
-reason_word : (text : List ℕ) (why : Reason) → reason_of text ≡ Some why → text ≡ word_of why
+read_word : (text : List ℕ) (why : Reason) → reason_of text ≡ Some why → text ≡ reason_word why
 unfolding reason_of
-reason_word text why e =
-    chosen (λ r. text ≡ word_of r) (bytes_eq text (codes "require")) Require _ why (bytes_eq-Decides text (codes "require")).0 (
-    chosen (λ r. text ≡ word_of r) (bytes_eq text (codes "overflow")) Overflow _ why (bytes_eq-Decides text (codes "overflow")).0 (
-    chosen (λ r. text ≡ word_of r) (bytes_eq text (codes "underflow")) Underflow _ why (bytes_eq-Decides text (codes "underflow")).0 (
-    chosen (λ r. text ≡ word_of r) (bytes_eq text (codes "zero_divisor")) ZeroDivisor _ why (bytes_eq-Decides text (codes "zero_divisor")).0 (
-    chosen (λ r. text ≡ word_of r) (bytes_eq text (codes "undeclared")) Undeclared None why (bytes_eq-Decides text (codes "undeclared")).0 (λ none. absurd cc))))) e
+read_word text why e =
+    chosen (λ r. text ≡ reason_word r) (bytes_eq text (codes "require")) Require _ why (bytes_eq-Decides text (codes "require")).0 (
+    chosen (λ r. text ≡ reason_word r) (bytes_eq text (codes "overflow")) Overflow _ why (bytes_eq-Decides text (codes "overflow")).0 (
+    chosen (λ r. text ≡ reason_word r) (bytes_eq text (codes "underflow")) Underflow _ why (bytes_eq-Decides text (codes "underflow")).0 (
+    chosen (λ r. text ≡ reason_word r) (bytes_eq text (codes "zero_divisor")) ZeroDivisor _ why (bytes_eq-Decides text (codes "zero_divisor")).0 (
+    chosen (λ r. text ≡ reason_word r) (bytes_eq text (codes "undeclared")) Undeclared None why (bytes_eq-Decides text (codes "undeclared")).0 (λ none. absurd cc))))) e
 
-reason_means : (v : Option Data) (why : Reason) → reason v ≡ Ok why → HasText v (word_of why)
+reason_means : (v : Option Data) (why : Reason) → reason v ≡ Ok why → HasText v (reason_word why)
 unfolding reason
 reason_means v why e =
     let text = bind_ok (wanted (option_and_then as_str v)) _ why e in
-    subst (HasText v) (reason_word text.0 why (wanted_ok (reason_of text.0) why text.2)) (text_is v text.0 (wanted_ok _ _ text.1))
+    subst (HasText v) (read_word text.0 why (wanted_ok (reason_of text.0) why text.2)) (text_is v text.0 (wanted_ok _ _ text.1))
 
-reason_reads : (v : Option Data) (why : Reason) → HasText v (word_of why) → reason v ≡ Ok why
+reason_reads : (v : Option Data) (why : Reason) → HasText v (reason_word why) → reason v ≡ Ok why
 unfolding reason reason_of
 reason_reads v Require h = rw h refl
 reason_reads v Overflow h = rw h refl

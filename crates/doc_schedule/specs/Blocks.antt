@@ -11,41 +11,41 @@ use Rattle.doc_forms.specs.declared.fault.Which.TheVariants as word
 use Rattle.doc_forms.specs.Faults.{Fault, Field, Limit}
 use Rattle.doc_forms.specs.Check.{◌>>=◌}
 use Rattle.doc_forms.specs.Forms.{at, wanted, each, items, list_in, only}
-use Rattle.doc_schedule.specs.declared.tables.Slot.{Slot}
-use Rattle.doc_schedule.specs.declared.tables.Slot.TheVariants.{Barred, Call, Config}
+use Rattle.doc_schedule.specs.declared.tables.ItemRole.{ItemRole}
+use Rattle.doc_schedule.specs.declared.tables.ItemRole.TheVariants.{Barred, Call, Config}
 use Rattle.doc_schedule.specs.Places.{place_in}
 use Rattle.doc_schedule.specs.Hashes.{prev_at}
 
--- a slot that may be missing, without where it lies in memory
-abbrev pub slot_at : Option (Bor Slot) → Option Slot
-slot_at None = None
-slot_at (Some s) = Some s.now
+-- a role that may be missing, without where it lies in memory
+abbrev pub role_at : Option (Bor ItemRole) → Option ItemRole
+role_at None = None
+role_at (Some s) = Some s.now
 
 -- a request may stand among others, a configuration alone
-abbrev pub may_stand : Bool → Option Slot → Bool
+abbrev pub may_stand : Bool → Option ItemRole → Bool
 may_stand alone None = false
 may_stand alone (Some Barred) = false
 may_stand alone (Some Call) = true
 may_stand alone (Some Config) = alone
 
 -- the place of an item that may stand there
-unfoldable pub next_txn : List Slot → Bool → List ℕ → Data → Result (List ℕ) Fault
-next_txn slots alone before d = do
-  place ← place_in (length slots) word.Item (Some d)
-  if may_stand alone (slice_get slots place) then Ok (before ++ place ∷ []) else Err (Field [])
+unfoldable pub next_txn : List ItemRole → Bool → List ℕ → Data → Result (List ℕ) Fault
+next_txn roles alone before d = do
+  place ← place_in (length roles) word.Item (Some d)
+  if may_stand alone (slice_get roles place) then Ok (before ++ place ∷ []) else Err (Field [])
 
 -- as many items as the limit of all lists together leaves room for: the sum is tested before the items
-unfoldable pub txns_within : List Slot → ℕ → Items → Result (List ℕ) Fault
-txns_within slots total ds = if nat_lt 16384 (total + items_len ds) then Err (Limit word.FalseTxns 16384) else each (next_txn slots (items_len ds == 1)) 0 [] ds
+unfoldable pub txns_within : List ItemRole → ℕ → Items → Result (List ℕ) Fault
+txns_within roles total ds = if nat_lt 16384 (total + items_len ds) then Err (Limit word.FalseTxns 16384) else each (next_txn roles (items_len ds == 1)) 0 [] ds
 
-unfoldable pub txns_of : List Slot → ℕ → Option Data → Result (List ℕ) Fault
-txns_of slots total v = do
+unfoldable pub txns_of : List ItemRole → ℕ → Option Data → Result (List ℕ) Fault
+txns_of roles total v = do
   ds ← list_in 1 256 word.Txns v
-  txns_within slots total ds
+  txns_within roles total ds
 
 -- the items of a `block` event, behind so many items of the events before it
-unfoldable pub txns_at : List Slot → ℕ → Members → Result (List ℕ) Fault
-txns_at slots total ms = at (codes "txns") ms (txns_of slots total)
+unfoldable pub txns_at : List ItemRole → ℕ → Members → Result (List ℕ) Fault
+txns_at roles total ms = at (codes "txns") ms (txns_of roles total)
 
 unfoldable pub next_pred : List ℕ → Data → Result (List ℕ) Fault
 next_pred before d = do
@@ -80,28 +80,29 @@ preds count (Some d) = do
   lists ← lists_of count ds
   Ok (Some lists)
 
-abbrev pub is_config : Option Slot → Bool
-is_config None = false
-is_config (Some Barred) = false
-is_config (Some Call) = false
-is_config (Some Config) = true
+-- it is a configuration's
+abbrev pub is_config_role : Option ItemRole → Bool
+is_config_role None = false
+is_config_role (Some Barred) = false
+is_config_role (Some Call) = false
+is_config_role (Some Config) = true
 
-abbrev pub first_slot : List Slot → List ℕ → Option Slot
-first_slot slots [] = None
-first_slot slots (i ∷ rest) = slice_get slots i
+abbrev pub first_role : List ItemRole → List ℕ → Option ItemRole
+first_role roles [] = None
+first_role roles (i ∷ rest) = slice_get roles i
 
 -- how many transactions the items are: a configuration stands alone and is none
-unfoldable pub count_of : List Slot → List ℕ → ℕ
-count_of slots items = if is_config (first_slot slots items) then 0 else length items
+unfoldable pub count_of : List ItemRole → List ℕ → ℕ
+count_of roles items = if is_config_role (first_role roles items) then 0 else length items
 
 -- the graph of a `block` event with these items
-unfoldable pub preds_at : List Slot → List ℕ → Members → Result (Option (List (List ℕ))) Fault
-preds_at slots items ms = at (codes "preds") ms (preds (count_of slots items))
+unfoldable pub preds_at : List ItemRole → List ℕ → Members → Result (Option (List (List ℕ))) Fault
+preds_at roles items ms = at (codes "preds") ms (preds (count_of roles items))
 
 -- the previous hash and the graph of a `block` event with these items, behind which no other key is listed
-unfoldable pub links_at : List Slot → List ℕ → Members → Result (Option (List ℕ) × Option (List (List ℕ))) Fault
-links_at slots items ms = do
+unfoldable pub links_at : List ItemRole → List ℕ → Members → Result (Option (List ℕ) × Option (List (List ℕ))) Fault
+links_at roles items ms = do
   prev ← prev_at ms
-  preds ← preds_at slots items ms
+  preds ← preds_at roles items ms
   end ← only (codes "do" ∷ codes "from" ∷ codes "number" ∷ codes "txns" ∷ codes "prev" ∷ codes "preds" ∷ []) ms
   Ok (prev, preds)

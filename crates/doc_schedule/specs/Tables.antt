@@ -9,14 +9,14 @@ use Rattle.serde_json.specs.Data.{Members}
 use Rattle.doc_forms.specs.Faults.{Fault}
 use Rattle.doc_forms.specs.Forms.{at}
 use Rattle.doc_forms.specs.Tables.{node_named, reference}
-use Rattle.doc_schedule.specs.declared.tables.Slot.{Slot}
-use Rattle.doc_schedule.specs.declared.tables.Slot.TheVariants.{Barred, Call, Config}
+use Rattle.doc_schedule.specs.declared.tables.ItemRole.{ItemRole}
+use Rattle.doc_schedule.specs.declared.tables.ItemRole.TheVariants.{Barred, Call, Config}
 
 -- what a stream item is to a block: a mark or a rejected request carries nothing
-abbrev pub slot_of : Option Piece → Slot
-slot_of None = Barred
-slot_of (Some (piece.Call t)) = Call
-slot_of (Some (piece.Config c)) = Config
+abbrev pub role_of : Option Piece → ItemRole
+role_of None = Barred
+role_of (Some (piece.Call t)) = Call
+role_of (Some (piece.Config c)) = Config
 
 abbrev pub is_among : List Node → Node → Bool
 is_among nodes node = list_any (same_node node) nodes

@@ -4,42 +4,42 @@ ghost use Rattle.std.specs.Prelude.{◌≡◌, ◌+◌, ◌≤◌, length, IfOk,
 ghost use Rattle.serde_json.specs.View.{view, items_view, members_view};
 ghost use Rattle.doc_forms.specs.Check.{Gives};
 ghost use Rattle.doc_forms.specs.Forms.{seen};
-ghost use Rattle.doc_schedule.specs.Blocks.{slot_at, may_stand, next_txn, txns_within, txns_of, txns_at, next_pred, next_preds, is_array_value, are_array_values, are_arrays, lists_of, preds, first_slot, count_of, preds_at, links_at};
+ghost use Rattle.doc_schedule.specs.Blocks.{role_at, may_stand, next_txn, txns_within, txns_of, txns_at, next_pred, next_preds, is_array_value, are_array_values, are_arrays, lists_of, preds, first_role, count_of, preds_at, links_at};
 
 use crate::hashes::prev_at;
 use crate::places::{place_in, position};
-use crate::tables::Slot;
+use crate::tables::ItemRole;
 use doc_forms::{DocFault, Turn, Which, at, each, field_fault, items, list_in, member, only};
 use serde_json::{Map, Value};
 use std::alloc::Global;
 use txn_types::{GrowingList, Items, Preds};
 
-fn may_stand(alone: bool, slot: Option<&Slot>) -> bool
-    ensures { result ≡ may_stand alone (slot_at slot.entry) }
+fn may_stand(alone: bool, role: Option<&ItemRole>) -> bool
+    ensures { result ≡ may_stand alone (role_at role.entry) }
 {
-    match slot {
+    match role {
         None => false,
-        Some(Slot::Barred) => false,
-        Some(Slot::Call) => true,
-        Some(Slot::Config) => alone,
+        Some(ItemRole::Barred) => false,
+        Some(ItemRole::Call) => true,
+        Some(ItemRole::Config) => alone,
     }
 }
 
 #[derive(Clone, Copy, Drop)]
 struct NextTxn<'t> {
-    slots: &'t [Slot],
+    roles: &'t [ItemRole],
     alone: bool,
 }
 
 impl<'t> Turn for NextTxn<'t> {
     type State = Items;
 
-    ghost check = { λ s. next_txn s.slots.now s.alone };
+    ghost check = { λ s. next_txn s.roles.now s.alone };
 
     #[tactic(auto, unfolding(crate::specs::Blocks::next_txn))]
     fn turn(&self, alloc: Global, mut done: Items, item: &Value) -> Result<Items, DocFault> {
-        let place = place_in(alloc, self.slots.len() as u64, Which::Item, Some(item))?;
-        if !may_stand(self.alone, self.slots.get(place as usize)) {
+        let place = place_in(alloc, self.roles.len() as u64, Which::Item, Some(item))?;
+        if !may_stand(self.alone, self.roles.get(place as usize)) {
             return Err(field_fault(alloc));
         }
         // A stream has far fewer items than 32 bits number.
@@ -53,9 +53,14 @@ impl<'t> Turn for NextTxn<'t> {
 
 // As many items as the limit of all lists together leaves room for.
 #[tactic(auto, using(doc_forms::proofs::Lists::length_of_items), unfolding(crate::specs::Blocks::txns_within))]
-fn txns_within(alloc: Global, slots: &[Slot], total: u64, list: &[Value]) -> Result<Items, DocFault>
+fn txns_within(
+    alloc: Global,
+    roles: &[ItemRole],
+    total: u64,
+    list: &[Value],
+) -> Result<Items, DocFault>
     requires { length list.now ≤ 256 }
-    ensures check { Gives (λ items. items) result (txns_within slots.now total (items_view list.now)) }
+    ensures check { Gives (λ items. items) result (txns_within roles.now total (items_view list.now)) }
     ensures bound { IfOk result (λ items. total + length items ≤ 16384) }
     ensures few { IfOk result (λ items. length items ≤ 256) }
 {
@@ -66,35 +71,40 @@ fn txns_within(alloc: Global, slots: &[Slot], total: u64, list: &[Value]) -> Res
         });
     }
     let alone = list.len() == 1;
-    each(alloc, &NextTxn { slots, alone }, Items::new(alloc), list)
+    each(alloc, &NextTxn { roles, alone }, Items::new(alloc), list)
 }
 
 #[tactic(auto, unfolding(crate::specs::Blocks::txns_of))]
-fn txns(alloc: Global, slots: &[Slot], total: u64, value: Option<&Value>) -> Result<Items, DocFault>
-    ensures check { Gives (λ items. items) result (txns_of slots.now total (seen value.entry)) }
+fn txns(
+    alloc: Global,
+    roles: &[ItemRole],
+    total: u64,
+    value: Option<&Value>,
+) -> Result<Items, DocFault>
+    ensures check { Gives (λ items. items) result (txns_of roles.now total (seen value.entry)) }
     ensures bound { IfOk result (λ items. total + length items ≤ 16384) }
     ensures few { IfOk result (λ items. length items ≤ 256) }
 {
     let list = list_in(alloc, 1, 256, Which::Txns, value)?;
-    txns_within(alloc, slots, total, list.as_slice())
+    txns_within(alloc, roles, total, list.as_slice())
 }
 
 /// The items of a `block` event, behind so many items of the events before it.
 #[tactic(auto, unfolding(crate::specs::Blocks::txns_at))]
 pub fn txns_at(
     alloc: Global,
-    slots: &[Slot],
+    roles: &[ItemRole],
     total: u64,
     members: &Map<String, Value>,
 ) -> Result<Items, DocFault>
-    ensures check { Gives (λ items. items) result (txns_at slots.now total (members_view members.now.entries)) }
+    ensures check { Gives (λ items. items) result (txns_at roles.now total (members_view members.now.entries)) }
     ensures bound { IfOk result (λ items. total + length items ≤ 16384) }
     ensures few { IfOk result (λ items. length items ≤ 256) }
 {
     at(
         alloc,
         "txns",
-        txns(alloc, slots, total, member(members, "txns")),
+        txns(alloc, roles, total, member(members, "txns")),
     )
 }
 
@@ -191,23 +201,23 @@ fn preds(alloc: Global, count: usize, value: Option<&Value>) -> Result<Option<Pr
     Ok(Some(lists))
 }
 
-fn first_slot<'s>(slots: &'s [Slot], items: &[u32]) -> Option<&'s Slot>
-    ensures { slot_at result ≡ first_slot slots.now items.now }
+fn first_role<'s>(roles: &'s [ItemRole], items: &[u32]) -> Option<&'s ItemRole>
+    ensures { role_at result ≡ first_role roles.now items.now }
 {
     match items {
         [] => None,
-        [first, ..] => slots.get(*first as usize),
+        [first, ..] => roles.get(*first as usize),
     }
 }
 
 // How many transactions the message carries.
 #[tactic(auto, unfolding(crate::specs::Blocks::count_of))]
-fn count_of(slots: &[Slot], items: &[u32]) -> usize
-    ensures count { result ≡ count_of slots.now items.now }
+fn count_of(roles: &[ItemRole], items: &[u32]) -> usize
+    ensures count { result ≡ count_of roles.now items.now }
     ensures bound { result ≤ length items.now }
 {
-    match first_slot(slots, items) {
-        Some(Slot::Config) => 0,
+    match first_role(roles, items) {
+        Some(ItemRole::Config) => 0,
         _ => items.len(),
     }
 }
@@ -216,14 +226,14 @@ fn count_of(slots: &[Slot], items: &[u32]) -> usize
 #[tactic(auto, unfolding(crate::specs::Blocks::preds_at))]
 fn preds_at(
     alloc: Global,
-    slots: &[Slot],
+    roles: &[ItemRole],
     items: &[u32],
     members: &Map<String, Value>,
 ) -> Result<Option<Preds>, DocFault>
     requires { length items.now ≤ 256 }
-    ensures { Gives (λ preds. preds) result (preds_at slots.now items.now (members_view members.now.entries)) }
+    ensures { Gives (λ preds. preds) result (preds_at roles.now items.now (members_view members.now.entries)) }
 {
-    let count = count_of(slots, items);
+    let count = count_of(roles, items);
     at(
         alloc,
         "preds",
@@ -249,15 +259,15 @@ fn if_ended(
 #[tactic(auto, unfolding(crate::specs::Blocks::links_at))]
 pub fn links_at(
     alloc: Global,
-    slots: &[Slot],
+    roles: &[ItemRole],
     items: &[u32],
     members: &Map<String, Value>,
 ) -> Result<(Option<[u8; 32]>, Option<Preds>), DocFault>
     requires { length items.now ≤ 256 }
-    ensures { Gives (λ links. links) result (links_at slots.now items.now (members_view members.now.entries)) }
+    ensures { Gives (λ links. links) result (links_at roles.now items.now (members_view members.now.entries)) }
 {
     let prev = prev_at(alloc, members)?;
-    let preds = preds_at(alloc, slots, items, members)?;
+    let preds = preds_at(alloc, roles, items, members)?;
     let end = only(
         alloc,
         &["do", "from", "number", "txns", "prev", "preds"],

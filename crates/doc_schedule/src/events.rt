@@ -2,6 +2,7 @@
 
 ghost use Rattle.std.specs.Prelude.{◌≡◌, ◌<◌};
 ghost use Rattle.serde_json.specs.View.{view, members_view};
+ghost use Rattle.txn_types.specs.Values.{max_false};
 ghost use Rattle.doc_forms.specs.Check.{Gives};
 ghost use Rattle.doc_forms.specs.Forms.{seen};
 ghost use Rattle.doc_schedule.specs.Schedule.{what_of, to_do, msg_at, deliver, all, say_block, say_commit, false_block, false_commit, by_what, next_event, schedule};
@@ -14,7 +15,7 @@ use doc_forms::{
 };
 use serde_json::{Map, Value};
 use std::alloc::Global;
-use txn_types::{Commit, Event, Events};
+use txn_types::{Commit, Event, Events, MAX_FALSE, MAX_NUMBER};
 
 /// What an event asks for.
 #[derive(Clone, Copy, Drop)]
@@ -120,13 +121,13 @@ fn say_block(
     mut made: Played,
     members: &Map<String, Value>,
 ) -> Result<Played, DocFault>
-    requires { made.falses < 1024 }
-    ensures { Gives (λ made. made) result (say_block tables.now.nodes.orderers.now tables.now.nodes.peers.now tables.now.faulty.now tables.now.slots.now made (members_view members.now.entries)) }
+    requires { made.falses < max_false }
+    ensures { Gives (λ made. made) result (say_block tables.now.nodes.orderers.now tables.now.nodes.peers.now tables.now.faulty.now tables.now.roles.now made (members_view members.now.entries)) }
 {
     let from = faulty_at(alloc, tables, members)?;
-    let number = number_at(alloc, members, "number", 1, 4353, Which::Number)?;
-    let items = txns_at(alloc, tables.slots, made.false_txns, members)?;
-    let (prev, preds) = links_at(alloc, tables.slots, items.as_slice(), members)?;
+    let number = number_at(alloc, members, "number", 1, MAX_NUMBER, Which::Number)?;
+    let items = txns_at(alloc, tables.roles, made.false_txns, members)?;
+    let (prev, preds) = links_at(alloc, tables.roles, items.as_slice(), members)?;
     made.falses += 1;
     made.false_txns += items.len() as u64;
     made.events.push(Event::SayBlock {
@@ -146,11 +147,11 @@ fn say_commit(
     mut made: Played,
     members: &Map<String, Value>,
 ) -> Result<Played, DocFault>
-    requires { made.falses < 1024 }
+    requires { made.falses < max_false }
     ensures { Gives (λ made. made) result (say_commit tables.now.nodes.orderers.now tables.now.nodes.peers.now tables.now.faulty.now made (members_view members.now.entries)) }
 {
     let from = faulty_at(alloc, tables, members)?;
-    let n = number_at(alloc, members, "block", 1, 4353, Which::Block)?;
+    let n = number_at(alloc, members, "block", 1, MAX_NUMBER, Which::Block)?;
     let votes = votes_at(alloc, made.false_votes, members)?;
     only(alloc, &["do", "from", "block", "votes"], members)?;
     made.falses += 1;
@@ -169,12 +170,12 @@ fn false_block(
     made: Played,
     members: &Map<String, Value>,
 ) -> Result<Played, DocFault>
-    ensures { Gives (λ made. made) result (false_block tables.now.nodes.orderers.now tables.now.nodes.peers.now tables.now.faulty.now tables.now.slots.now made (members_view members.now.entries)) }
+    ensures { Gives (λ made. made) result (false_block tables.now.nodes.orderers.now tables.now.nodes.peers.now tables.now.faulty.now tables.now.roles.now made (members_view members.now.entries)) }
 {
-    if made.falses >= 1024 {
+    if made.falses >= u64::from(MAX_FALSE) {
         return Err(DocFault::Limit {
             which: Which::False,
-            limit: 1024,
+            limit: u64::from(MAX_FALSE),
         });
     }
     say_block(alloc, tables, made, members)
@@ -189,10 +190,10 @@ fn false_commit(
 ) -> Result<Played, DocFault>
     ensures { Gives (λ made. made) result (false_commit tables.now.nodes.orderers.now tables.now.nodes.peers.now tables.now.faulty.now made (members_view members.now.entries)) }
 {
-    if made.falses >= 1024 {
+    if made.falses >= u64::from(MAX_FALSE) {
         return Err(DocFault::Limit {
             which: Which::False,
-            limit: 1024,
+            limit: u64::from(MAX_FALSE),
         });
     }
     say_commit(alloc, tables, made, members)
@@ -206,7 +207,7 @@ struct NextEvent<'t> {
 impl<'t> Turn for NextEvent<'t> {
     type State = Played;
 
-    ghost check = { λ s. next_event s.tables.nodes.orderers.now s.tables.nodes.peers.now s.tables.faulty.now s.tables.slots.now };
+    ghost check = { λ s. next_event s.tables.nodes.orderers.now s.tables.nodes.peers.now s.tables.faulty.now s.tables.roles.now };
 
     #[tactic(auto, unfolding(crate::specs::Schedule::next_event))]
     fn turn(&self, alloc: Global, done: Played, item: &Value) -> Result<Played, DocFault> {
@@ -228,7 +229,7 @@ pub fn read_schedule(
     tables: &ScheduleTables,
     members: &Map<String, Value>,
 ) -> Result<Events, DocFault>
-    ensures { Gives (λ events. events) result (schedule tables.now.nodes.orderers.now tables.now.nodes.peers.now tables.now.faulty.now tables.now.slots.now (members_view members.now.entries)) }
+    ensures { Gives (λ events. events) result (schedule tables.now.nodes.orderers.now tables.now.nodes.peers.now tables.now.faulty.now tables.now.roles.now (members_view members.now.entries)) }
 {
     let made = list_at(
         alloc,

@@ -9,4 +9,4 @@ mod tables;
 mod votes;
 
 pub use events::read_schedule;
-pub use tables::{ScheduleTables, Slot};
+pub use tables::{ItemRole, ScheduleTables};

@@ -2,18 +2,17 @@
 
 ghost use Rattle.std.specs.Prelude.{◌≡◌};
 ghost use Rattle.serde_json.specs.View.{members_view};
-ghost use Rattle.node_defs.specs.Same.{same_node};
 ghost use Rattle.doc_forms.specs.Check.{Gives};
 ghost use Rattle.doc_schedule.specs.Tables.{is_among, faulty_named, faulty_at};
 
-use doc_forms::{DocFault, Nodes, Table, at, member, reference};
+use doc_forms::{DocFault, NamedTable, NodeNames, at, member, reference};
 use serde_json::{Map, Value};
 use std::alloc::Global;
 use txn_types::{Node, NodeSet};
 
 /// What a stream item is to a block.
 #[derive(Clone, Copy, Drop)]
-pub enum Slot {
+pub enum ItemRole {
     /// A mark or a rejected request.
     Barred,
     Call,
@@ -23,36 +22,26 @@ pub enum Slot {
 /// The names, the faulty nodes and the stream that events speak of.
 #[derive(Clone, Copy, Drop)]
 pub struct ScheduleTables<'t> {
-    pub nodes: Nodes<'t>,
+    pub nodes: NodeNames<'t>,
     pub faulty: &'t NodeSet,
-    pub slots: &'t [Slot],
-}
-
-fn same_node(a: Node, b: Node) -> bool
-    ensures { result ≡ same_node a b }
-{
-    match (a, b) {
-        (Node::Peer(p), Node::Peer(q)) => p == q,
-        (Node::Orderer(p), Node::Orderer(q)) => p == q,
-        _ => false,
-    }
+    pub roles: &'t [ItemRole],
 }
 
 fn is_among(nodes: &[Node], node: Node) -> bool
     ensures { result ≡ is_among nodes.now node }
 {
-    nodes.iter().any(|other| same_node(node, *other))
+    nodes.iter().any(|other| node == *other)
 }
 
 /// The faulty nodes by their names.
 #[derive(Clone, Copy, Drop)]
 struct FaultyNodes<'t> {
-    nodes: Nodes<'t>,
+    nodes: NodeNames<'t>,
     faulty: &'t NodeSet,
 }
 
-impl<'t> Table for FaultyNodes<'t> {
-    type Entry = Node;
+impl<'t> NamedTable for FaultyNodes<'t> {
+    type Target = Node;
 
     ghost lookup = { λ t. faulty_named t.nodes.orderers.now t.nodes.peers.now t.faulty.now };
 

@@ -8,7 +8,7 @@ use Rattle.txn_types.specs.declared.stream.Item.{Item}
 use Rattle.txn_types.specs.declared.stream.Item.TheVariants as item
 use Rattle.doc_forms.proofs.EachMeant.{put_all, AllFresh}
 use Rattle.doc_stream.specs.declared.reading.Made.{Made}
-use Rattle.doc_stream.specs.Stream.{nothing, add_mark}
+use Rattle.doc_stream.specs.Stream.{no_items_yet, add_mark}
 use Rattle.doc_stream.specs.StreamMeaning.{is_request, is_config}
 
 -- an item, put behind those before it, and counted
@@ -33,8 +33,8 @@ items_put made [] = sym (append-nil made.items)
 items_put made (x ∷ xs) = items_put (put made x) xs ∙ ap (λ (w : List Item). w ++ xs) (put_one made x) ∙ append_assoc made.items (x ∷ []) xs
 
 -- the items that were put are all that is there
-pub items_are : (xs : List Item) → (put_all put nothing xs).items ≡ xs
-items_are xs = items_put nothing xs
+pub items_are : (xs : List Item) → (put_all put no_items_yet xs).items ≡ xs
+items_are xs = items_put no_items_yet xs
 
 ask_counts : (r : Request) (xs : List Item) → count_by is_request (item.Ask r ∷ xs) ≡ 1 + count_by is_request xs
 ask_counts r xs = sum_by-cons (λ x. cond (is_request x) 1 0) (item.Ask r) xs
@@ -66,11 +66,11 @@ from_zero n k h = omega (arith, h)
 to_zero : (n k : ℕ) → n ≤ k → 0 + n ≤ k
 to_zero n k h = omega (arith, h)
 
-pub requests_few : (xs : List Item) → AllFresh put IsBelow nothing xs → count_by is_request xs ≤ 4096
-requests_few xs fresh = from_zero (count_by is_request xs) 4096 (requests_within nothing xs fresh (omega arith))
+pub requests_few : (xs : List Item) → AllFresh put IsBelow no_items_yet xs → count_by is_request xs ≤ 4096
+requests_few xs fresh = from_zero (count_by is_request xs) 4096 (requests_within no_items_yet xs fresh (omega arith))
 
-pub configs_few : (xs : List Item) → AllFresh put IsBelow nothing xs → count_by is_config xs ≤ 256
-configs_few xs fresh = from_zero (count_by is_config xs) 256 (configs_within nothing xs fresh (omega arith))
+pub configs_few : (xs : List Item) → AllFresh put IsBelow no_items_yet xs → count_by is_config xs ≤ 256
+configs_few xs fresh = from_zero (count_by is_config xs) 256 (configs_within no_items_yet xs fresh (omega arith))
 
-pub few_below : (xs : List Item) → count_by is_request xs ≤ 4096 → count_by is_config xs ≤ 256 → AllFresh put IsBelow nothing xs
-few_below xs r c = all_below nothing xs (to_zero (count_by is_request xs) 4096 r) (to_zero (count_by is_config xs) 256 c)
+pub few_below : (xs : List Item) → count_by is_request xs ≤ 4096 → count_by is_config xs ≤ 256 → AllFresh put IsBelow no_items_yet xs
+few_below xs r c = all_below no_items_yet xs (to_zero (count_by is_request xs) 4096 r) (to_zero (count_by is_config xs) 256 c)

@@ -1,4 +1,3 @@
-pub mod Bounds
 pub mod RequestsMeant
 pub mod ConfigsMeant
 pub mod Counts

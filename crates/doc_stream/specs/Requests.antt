@@ -38,8 +38,8 @@ unfoldable pub set_at : List ℕ → List (List ℕ) → Members → Result (Lis
 set_at k records ms = list_at k 0 64 word.Set (new_reference (λ r. r) (place_below 65536 records)) [] ms
 
 -- the keys of a request, in this order
-unfoldable pub request : List (List ℕ) → Members → Result Request Fault
-request records ms = do
+unfoldable pub stream_request : List (List ℕ) → Members → Result Request Fault
+stream_request records ms = do
   client ← name_at (codes "client") ms
   app ← name_at (codes "app") ms
   op ← name_at (codes "op") ms

@@ -10,22 +10,23 @@ use Rattle.doc_forms.specs.Faults.{Fault, Field, Limit}
 use Rattle.doc_forms.specs.Check.{◌>>=◌}
 use Rattle.doc_forms.specs.Forms.{list_at}
 use Rattle.doc_stream.specs.declared.reading.Made.{Made}
-use Rattle.doc_stream.specs.Requests.{request}
-use Rattle.doc_stream.specs.Configs.{config}
+use Rattle.doc_stream.specs.Requests.{stream_request}
+use Rattle.doc_stream.specs.Configs.{stream_config}
 
-abbrev pub nothing : Made
-nothing = record { items = []; requests = 0; configs = 0 }
+-- before the first item
+abbrev pub no_items_yet : Made
+no_items_yet = record { items = []; requests = 0; configs = 0 }
 
 -- a request: the count comes before the keys
 unfoldable pub add_request : List (List ℕ) → Made → Members → Result Made Fault
 add_request records made ms = if nat_le 4096 made.requests then Err (Limit word.Transactions 4096) else (do
-  r ← request records ms
+  r ← stream_request records ms
   Ok (record { items = made.items ++ Ask r ∷ []; requests = made.requests + 1; configs = made.configs }))
 
 -- a configuration: the count comes before the keys
 unfoldable pub add_config : List (List ℕ) → List (List ℕ) → Made → Members → Result Made Fault
 add_config apps peers made ms = if nat_le 256 made.configs then Err (Limit word.Configs 256) else (do
-  c ← config apps peers ms
+  c ← stream_config apps peers ms
   Ok (record { items = made.items ++ Config c ∷ []; requests = made.requests; configs = made.configs + 1 }))
 
 abbrev pub add_mark : Made → Made
@@ -54,5 +55,5 @@ next_item records apps peers made d = by_kind records apps peers made (as_str d)
 
 unfoldable pub stream : List (List ℕ) → List (List ℕ) → List (List ℕ) → Members → Result (List Item) Fault
 stream records apps peers ms = do
-  made ← list_at (codes "stream") 0 8192 word.Items (next_item records apps peers) nothing ms
+  made ← list_at (codes "stream") 0 8192 word.Items (next_item records apps peers) no_items_yet ms
   Ok made.items

@@ -1,5 +1,5 @@
 -- What a stream says, key by key: no order of checks, and no faults.
-use Rattle.std.specs.Prelude.{◌≡◌, ◌≤◌, ℕ, Bool, true, false, List, [], ◌∷◌, codes, length, Some, None}
+use Rattle.std.specs.Prelude.{◌≡◌, ◌≤◌, ℕ, Bool, true, false, List, [], ◌∷◌, codes, Some, None}
 use Rattle.std.specs.List.{count_by}
 use Rattle.serde_json.specs.Data.{Data, string, object, Members}
 use Rattle.serde_json.specs.Find.{get_member}
@@ -10,12 +10,12 @@ use Rattle.txn_types.specs.declared.block.Config.{Config}
 use Rattle.txn_types.specs.declared.stream.Request.{Request}
 use Rattle.txn_types.specs.declared.stream.Item.{Item}
 use Rattle.txn_types.specs.declared.stream.Item.TheVariants as item
-use Rattle.doc_forms.specs.Tables.{place_below}
-use Rattle.doc_forms.specs.Meaning.{HasNumber, HasName, HasReference, HasOnly, HasList, HasSet}
+use Rattle.doc_forms.specs.Meaning.{IsNameAt, HasNumber, HasName, HasReference, HasOnly, HasList, HasSet}
+use Rattle.doc_forms.specs.Agents.{HasAgents}
 
--- a string leads to a record, and a number is itself
+-- a string is the name of a record, and a number is itself
 abbrev pub SaysArg : List (List ℕ) → Data → Arg → Type 0
-SaysArg records d (Rec r) = HasReference (place_below 65536 records) (Some d) r
+SaysArg records d (Rec r) = HasReference (IsNameAt records) (Some d) r
 SaysArg records d (Num n) = HasNumber 0 max_value (Some d) n
 
 -- an object says a request
@@ -24,15 +24,14 @@ pub record SaysRequest (records : List (List ℕ)) (ms : Members) (r : Request) 
   pub app : HasName (get_member (codes "app") ms) r.app
   pub op : HasName (get_member (codes "op") ms) r.op
   pub args : HasList (SaysArg records) 0 64 (get_member (codes "args") ms) r.args
-  pub reads : HasSet (λ r. r) (place_below 65536 records) 0 64 (get_member (codes "reads") ms) r.reads
-  pub writes : HasSet (λ r. r) (place_below 65536 records) 0 64 (get_member (codes "writes") ms) r.writes
+  pub reads : HasSet (λ r. r) (IsNameAt records) 0 64 (get_member (codes "reads") ms) r.reads
+  pub writes : HasSet (λ r. r) (IsNameAt records) 0 64 (get_member (codes "writes") ms) r.writes
   pub only : HasOnly (codes "client" ∷ codes "app" ∷ codes "op" ∷ codes "args" ∷ codes "reads" ∷ codes "writes" ∷ []) ms
 
 -- an object says a configuration
 pub record SaysConfig (apps peers : List (List ℕ)) (ms : Members) (c : Config) : Type 0 where
-  pub app : HasReference (place_below 256 apps) (get_member (codes "config") ms) c.app
-  pub agents : HasSet (λ p. p) (place_below 256 peers) 1 16 (get_member (codes "agents") ms) c.agents
-  pub tau : HasNumber 1 (length c.agents) (get_member (codes "tau") ms) c.tau
+  pub app : HasReference (IsNameAt apps) (get_member (codes "config") ms) c.app
+  pub agents : HasAgents peers ms c.agents c.tau
   pub only : HasOnly (codes "config" ∷ codes "agents" ∷ codes "tau" ∷ []) ms
 
 -- an item: the string `cut`, an object with the key `config`, or a request object without it

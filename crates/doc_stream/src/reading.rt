@@ -3,10 +3,10 @@
 ghost use Rattle.std.specs.Prelude.{◌≡◌};
 ghost use Rattle.serde_json.specs.View.{view, members_view};
 ghost use Rattle.doc_forms.specs.Check.{Gives};
-ghost use Rattle.doc_stream.specs.Stream.{nothing, add_request, add_config, add_object, add_text, next_item, stream};
+ghost use Rattle.doc_stream.specs.Stream.{no_items_yet, add_request, add_config, add_object, add_text, next_item, stream};
 
-use crate::configs::config;
-use crate::requests::request;
+use crate::configs::read_config;
+use crate::requests::read_request;
 use doc_forms::{DocFault, SortedNames, Turn, Which, field_fault, list_at, member};
 use serde_json::{Map, Value};
 use std::alloc::Global;
@@ -43,7 +43,7 @@ fn add_request(
             limit: 4096,
         });
     }
-    let request = request(alloc, records, members)?;
+    let request = read_request(alloc, records, members)?;
     made.items.push(Item::Ask(request))?;
     made.requests += 1;
     Ok(made)
@@ -65,7 +65,7 @@ fn add_config(
             limit: 256,
         });
     }
-    let config = config(alloc, apps, peers, members)?;
+    let config = read_config(alloc, apps, peers, members)?;
     made.items.push(Item::Config(config))?;
     made.configs += 1;
     Ok(made)

@@ -3,7 +3,7 @@
 ghost use Rattle.std.specs.Prelude.{◌≡◌};
 ghost use Rattle.serde_json.specs.View.{view, members_view};
 ghost use Rattle.doc_forms.specs.Check.{Gives};
-ghost use Rattle.doc_stream.specs.Requests.{argument, next_argument, args_at, set_at, request};
+ghost use Rattle.doc_stream.specs.Requests.{argument, next_argument, args_at, set_at, stream_request};
 
 use doc_forms::{
     DocFault, NewReference, SortedNames, Turn, Which, list_at, name_at, number_in, only, reference,
@@ -88,13 +88,13 @@ fn set_at(
 }
 
 /// A request.
-#[tactic(auto, unfolding(crate::specs::Requests::request))]
-pub fn request(
+#[tactic(auto, unfolding(crate::specs::Requests::stream_request))]
+pub fn read_request(
     alloc: Global,
     records: &SortedNames,
     members: &Map<String, Value>,
 ) -> Result<Request, DocFault>
-    ensures { Gives (λ r. r) result (request records.now (members_view members.now.entries)) }
+    ensures { Gives (λ r. r) result (stream_request records.now (members_view members.now.entries)) }
 {
     let client = name_at(alloc, members, "client")?;
     let app = name_at(alloc, members, "app")?;

@@ -1,37 +1,24 @@
 -- Applications that a document says are lawful for each table with its peers.
-use Rattle.std.proofs.Common.{◌≡◌, ◌<◌, ℕ, List, length, Option, Some, subst, arith}
+use Rattle.std.proofs.Common.{ℕ, List, length, arith}
 use Rattle.std.specs.List.{All}
-use Rattle.std.proofs.lemmas.List.{map-id}
-use Rattle.std.proofs.lemmas.List.Elements.{All-weaker}
 use Rattle.serde_json.specs.Data.{Data, Members}
 use Rattle.txn_types.specs.Names.{IsName}
-use Rattle.txn_types.specs.Rising.{IsRising}
 use Rattle.oxii_defs.specs.Table.{App, Table}
-use Rattle.oxii_defs.specs.Lawful.{IsUpTo, AreAgents, IsLawfulApp}
+use Rattle.oxii_defs.specs.Lawful.{IsUpTo, IsLawfulApp}
 use Rattle.contract_text.proofs.Accepted.{accepted_lawful}
-use Rattle.doc_forms.specs.Tables.{place_below}
-use Rattle.doc_forms.specs.Meaning.{HasSet, HasNumber, SaysName}
+use Rattle.doc_forms.specs.Meaning.{SaysName}
 use Rattle.doc_forms.proofs.SortedOnce.{all_of}
-use Rattle.doc_forms.proofs.SetsMeant.{set_count, set_found, place_below_bound, length_of_said, said_of}
+use Rattle.doc_forms.proofs.SetsMeant.{length_of_said, said_of}
+use Rattle.doc_forms.proofs.AgentsMeant.{agents_lawful}
 use Rattle.doc_tables.specs.AppsMeaning.{SaysApp, SaysApps}
-
-agents_lawful : (table : Table) (tau : ℕ) (v w : Option Data) (agents : List ℕ) → HasSet (λ p. p) (place_below 256 table.peers) 1 16 v agents → HasNumber 1 (length agents) w tau → AreAgents table agents tau
-agents_lawful table tau v w agents s n =
-    let count = set_count (λ p. p) (place_below 256 table.peers) 1 16 v agents s in
-    record {
-      count = (omega (arith, count.0), count.1);
-      peers = All-weaker (λ e. (text : List ℕ) × (place_below 256 table.peers text ≡ Some e)) (λ p. p < length table.peers) (λ p found. (place_below_bound 256 table.peers found.0 p found.1).0) agents (set_found (λ p. p) (place_below 256 table.peers) 1 16 v agents s);
-      rising = subst IsRising (map-id agents) s.rising;
-      votes = (omega (arith, n.1), n.2);
-    }
 
 -- each application that the document says
 app_lawful : (table : Table) (d : Data) (app : App) → SaysApp table.peers d app → IsLawfulApp table app
 app_lawful table d app s =
-    let ops = accepted_lawful s.contract.text app.ops s.contract.accepted in
+    let ops = accepted_lawful s.contract.text app.ops s.contract.is_contract in
     record {
       named = s.name.1;
-      agents = agents_lawful table app.tau _ _ app.agents s.agents s.tau;
+      agents = agents_lawful table s.members app.agents app.tau s.agents;
       clients = omega (arith, length_of_said SaysName s.clients.list.items app.clients s.clients.list.each, s.clients.list.most);
       clients_named = all_of IsName app.clients (λ x h. (said_of SaysName s.clients.list.items app.clients x s.clients.list.each h).1.1);
       client_names = s.clients.differ;

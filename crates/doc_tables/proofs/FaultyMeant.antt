@@ -7,19 +7,22 @@ use Rattle.txn_types.specs.Nodes.{rank_of}
 use Rattle.txn_types.specs.Rising.{IsRising}
 use Rattle.doc_forms.specs.declared.fault.Which.TheVariants as word
 use Rattle.doc_forms.specs.Tables.{node_named}
+use Rattle.doc_forms.specs.Meaning.{IsNodeName}
+use Rattle.doc_forms.proofs.LookUps.{NodesDiffer, nodes_find, finds_itself}
 use Rattle.doc_forms.proofs.SetsMeant.{set_at_means, set_at_reads, set_count}
 use Rattle.doc_tables.specs.Faulty.{faulty, SaysFaulty}
 
-pub faulty_means : (orderers peers : List (List ℕ)) (ms : Members) (nodes : List Node) → faulty orderers peers ms ≡ Ok nodes → SaysFaulty orderers peers ms nodes
+pub faulty_means : (orderers peers : List (List ℕ)) → NodesDiffer orderers peers → (ms : Members) (nodes : List Node) → faulty orderers peers ms ≡ Ok nodes → SaysFaulty orderers peers ms nodes
 unfolding faulty
-faulty_means orderers peers ms nodes e = set_at_means rank_of (node_named orderers peers) (codes "faulty") 0 32 word.Faulty ms nodes e
+faulty_means orderers peers differ ms nodes e = set_at_means rank_of (node_named orderers peers) (IsNodeName orderers peers) (nodes_find orderers peers differ) (codes "faulty") 0 32 word.Faulty ms nodes e
 
-pub faulty_reads : (orderers peers : List (List ℕ)) (ms : Members) (nodes : List Node) → SaysFaulty orderers peers ms nodes → faulty orderers peers ms ≡ Ok nodes
+pub faulty_reads : (orderers peers : List (List ℕ)) → NodesDiffer orderers peers → (ms : Members) (nodes : List Node) → SaysFaulty orderers peers ms nodes → faulty orderers peers ms ≡ Ok nodes
 unfolding faulty
-faulty_reads orderers peers ms nodes s = set_at_reads rank_of (node_named orderers peers) (codes "faulty") 0 32 word.Faulty ms nodes s
+faulty_reads orderers peers differ ms nodes s = set_at_reads rank_of (node_named orderers peers) (IsNodeName orderers peers) (nodes_find orderers peers differ) (codes "faulty") 0 32 word.Faulty ms nodes s
 
 -- they fit into a set of nodes
 pub faulty_fit : (orderers peers : List (List ℕ)) (ms : Members) (nodes : List Node) → faulty orderers peers ms ≡ Ok nodes → (length nodes ≤ 32) × IsRising (map rank_of nodes)
+unfolding faulty
 faulty_fit orderers peers ms nodes e =
-    let s = faulty_means orderers peers ms nodes e in
-    ((set_count rank_of (node_named orderers peers) 0 32 (get_member (codes "faulty") ms) nodes s).1, s.rising)
+    let s = set_at_means rank_of (node_named orderers peers) _ (finds_itself (node_named orderers peers)) (codes "faulty") 0 32 word.Faulty ms nodes e in
+    ((set_count rank_of _ 0 32 (get_member (codes "faulty") ms) nodes s).1, s.rising)

@@ -4,11 +4,11 @@ use Rattle.std.specs.List.{list_any}
 use Rattle.std.specs.Str.{bytes_eq}
 use Rattle.txn_core.specs.declared.table.App.{App}
 use Rattle.txn_core.specs.MeantTable.{app_of}
-use Rattle.doc_forms.specs.Tables.{has_name}
-use Rattle.doc_tables.specs.Apps.{names_of}
+use Rattle.doc_forms.specs.Forms.{is_listed}
+use Rattle.doc_tables.specs.Apps.{app_names}
 
 -- an application has the name
-pub any_named : (apps : List App) (text : List ℕ) → list_any (λ app. bytes_eq app.name text) apps ≡ has_name (names_of (map app_of apps)) text
-unfolding has_name
+pub any_named : (apps : List App) (text : List ℕ) → list_any (λ app. bytes_eq app.name text) apps ≡ is_listed (app_names (map app_of apps)) text
+unfolding is_listed
 any_named [] text = refl
 any_named (app ∷ apps) text = ap (λ b. bytes_eq app.name text || b) (any_named apps text)

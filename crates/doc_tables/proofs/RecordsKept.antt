@@ -4,15 +4,15 @@ use Rattle.std.specs.List.{All, insert}
 use Rattle.std.proofs.lemmas.List.Elements.{All-append, All-cons, All-drop, All-take}
 use Rattle.std.proofs.lemmas.List.Edits.{length-insert}
 use Rattle.serde_json.specs.Data.{Data}
-use Rattle.txn_types.specs.Values.{IsValue, AreValues}
+use Rattle.txn_types.specs.Values.{max_value, IsValue, AreValues}
 use Rattle.doc_forms.specs.declared.fault.Which.TheVariants as word
 use Rattle.doc_forms.specs.declared.fault.DocFault.{DocFault}
 use Rattle.doc_forms.specs.Check.{Gives}
 use Rattle.doc_forms.specs.Forms.{number_in}
 use Rattle.doc_forms.proofs.Meant.{number_means}
 
-pub read_value : (v : Option Data) (answer : Result ℕ DocFault) → Gives (λ n. n) answer (number_in 0 4611686018427387903 word.Value v) → IfOk answer IsValue
-read_value v (Ok n) h = (number_means 0 4611686018427387903 word.Value v n h).2
+pub read_value : (v : Option Data) (answer : Result ℕ DocFault) → Gives (λ n. n) answer (number_in 0 max_value word.Value v) → IfOk answer IsValue
+read_value v (Ok n) h = (number_means 0 max_value word.Value v n h).2
 read_value v (Err f) h = tt
 
 -- one put among others

@@ -12,7 +12,7 @@ use Rattle.serde_json.specs.Find.{as_array, get_member}
 use Rattle.serde_json.specs.Find as find
 use Rattle.serde_json.specs.Events.{items_len}
 use Rattle.txn_types.specs.Names.{IsName}
-use Rattle.txn_types.specs.Values.{IsValue, AreValues}
+use Rattle.txn_types.specs.Values.{max_value, IsValue, AreValues}
 use Rattle.oxii_defs.specs.WellFormed.{AllDiffer}
 use Rattle.doc_forms.specs.declared.fault.Which.TheVariants as word
 use Rattle.doc_forms.specs.Faults.{Field}
@@ -24,7 +24,7 @@ use Rattle.doc_forms.proofs.EachMeant.{IsStep, AllFresh, put_all, list_at_means,
 use Rattle.doc_forms.proofs.SortedOnce.{SortedBy, IsAsymmetric, sorted_once, all_of, first_there, later_there, there_cases, none_there}
 use Rattle.doc_forms.proofs.NamesMeant.{differ_at_end, differ_before}
 use Rattle.doc_forms.proofs.SetsMeant.{inserted_there, kept_there, insert_cases, length_of_said, said_of}
-use Rattle.doc_tables.specs.Records.{Valued, pair, is_new, with_record, next_record, records, SaysRecord, SaysRecords}
+use Rattle.doc_tables.specs.Records.{Valued, pair, no_place, with_record, next_record, records, SaysRecord, SaysRecords}
 use Rattle.doc_tables.proofs.RecordsKept.{lengths_after}
 use Rattle.doc_tables.proofs.RecordsSorted.{lower, one_way, sorted_in_order, in_order_sorted, is_absent, not_found, gap_sorted, gap_within, zip_inserted}
 
@@ -55,17 +55,17 @@ pair_means (string s) u e = absurd cc
 pair_means (array ds) u e = let two = two_items ds u e in (two.0, two.1, ap array two.2)
 pair_means (object ms) u e = absurd cc
 
-is_new_ok : (o : Option ℕ) (u : ⊤) → is_new o ≡ Ok u → o ≡ None
-is_new_ok None u e = refl
-is_new_ok (Some i) u e = absurd cc
+no_place_ok : (o : Option ℕ) (u : ⊤) → no_place o ≡ Ok u → o ≡ None
+no_place_ok None u e = refl
+no_place_ok (Some i) u e = absurd cc
 
 record_means : (before more : Valued) (d : Data) → next_record before d ≡ Ok more → (given : Given) × SaysRecord d given × Fresh before given × (put before given ≡ more)
 unfolding next_record
 record_means before more d e =
     let two = bind_ok (pair d) _ more e in
     let text = bind_ok (name (find.at 0 d)) _ more two.2 in
-    let new = bind_ok (is_new (place_of before.names text.0)) _ more text.2 in
-    let n = bind_ok (number_in 0 4611686018427387903 word.Value (find.at 1 d)) _ more new.2 in
+    let new = bind_ok (no_place (place_of before.names text.0)) _ more text.2 in
+    let n = bind_ok (number_in 0 max_value word.Value (find.at 1 d)) _ more new.2 in
     let is = pair_means d two.0 two.1 in (
       (text.0, n.0),
       record {
@@ -73,15 +73,15 @@ record_means before more d e =
         second = is.1;
         is = is.2;
         named = name_means (Some is.0) text.0 (subst (λ z. name (find.at 0 z) ≡ Ok text.0) is.2 text.1);
-        valued = number_means 0 4611686018427387903 word.Value (Some is.1) n.0 (subst (λ z. number_in 0 4611686018427387903 word.Value (find.at 1 z) ≡ Ok n.0) is.2 n.1);
+        valued = number_means 0 max_value word.Value (Some is.1) n.0 (subst (λ z. number_in 0 max_value word.Value (find.at 1 z) ≡ Ok n.0) is.2 n.1);
       },
-      is_new_ok (place_of before.names text.0) new.0 new.1,
+      no_place_ok (place_of before.names text.0) new.0 new.1,
       same_ok (with_record before text.0 n.0) more (Ok (with_record before text.0 n.0)) refl n.2,
     )
 
 record_reads : (before : Valued) (d : Data) (given : Given) → SaysRecord d given → Fresh before given → next_record before d ≡ Ok (put before given)
 unfolding next_record pair
-record_reads before d given says fresh = rw (says.is, name_reads (Some says.first) given.0 says.named, fresh, number_reads 0 4611686018427387903 word.Value (Some says.second) given.1 says.valued) refl
+record_reads before d given says fresh = rw (says.is, name_reads (Some says.first) given.0 says.named, fresh, number_reads 0 max_value word.Value (Some says.second) given.1 says.valued) refl
 
 record_step : IsStep next_record SaysRecord put Fresh
 record_step = record { means = record_means; reads = record_reads }

@@ -12,6 +12,7 @@ use Rattle.std.proofs.lemmas.Slice.Eq.{bytes_eq-Decides}
 use Rattle.std.proofs.lemmas.Bool.Decides.{nat_tests}
 use Rattle.std.proofs.lemmas.List.Sums.{position_or_len_is, fails_before_first}
 use Rattle.std.proofs.lemmas.List.Elements.{All-nil, All-cons, All-head, All-contains, All-weaker, Contains-get_or}
+use Rattle.oxii_defs.specs.WellFormed.{AllDiffer}
 use Rattle.oxii_defs.specs.Lawful.{AreInOrder}
 use Rattle.doc_forms.specs.Sorted.{order, gap_of}
 use Rattle.doc_forms.specs.Tables.{place_of}
@@ -43,6 +44,14 @@ in_order_sorted (x ∷ []) h = (All-nil _, tt)
 in_order_sorted (x ∷ y ∷ rest) h =
     let others = in_order_sorted (y ∷ rest) h.1 in
     (All-cons (lower x) y rest h.0 (All-weaker (lower y) (lower x) (λ z above. lower_through x y z h.0 above) rest others.0), others)
+
+sorted_differ : (names : List (List ℕ)) → SortedBy lower names → AllDiffer names
+sorted_differ [] h = tt
+sorted_differ (x ∷ rest) h = (λ found. let itself = All-contains (lower x) rest x h.0 found in one_way x x itself itself, sorted_differ rest h.1)
+
+-- names in order differ
+pub order_differs : (names : List (List ℕ)) → AreInOrder names → AllDiffer names
+order_differs names h = sorted_differ names (in_order_sorted names h)
 
 -- ---- a name that is not there
 

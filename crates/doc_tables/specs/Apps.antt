@@ -11,36 +11,38 @@ use Rattle.doc_forms.specs.declared.fault.Which.TheVariants as word
 use Rattle.doc_forms.specs.Faults.{Fault, TextKind, Limit, Contract, Double}
 use Rattle.doc_forms.specs.Faults as kind
 use Rattle.doc_forms.specs.Check.{◌>>=◌}
-use Rattle.doc_forms.specs.Forms.{wanted, name, object, at, only, items, list_at, number_at}
-use Rattle.doc_forms.specs.Tables.{has_name, new_name, new_reference, place_below}
+use Rattle.doc_forms.specs.Forms.{wanted, name, object, at, only, items, list_at, is_listed}
+use Rattle.doc_forms.specs.Tables.{new_name}
+use Rattle.doc_forms.specs.Agents.{agents_and_tau}
 
-abbrev pub names_of : List App → List (List ℕ)
-names_of apps = map (λ app. app.name) apps
+-- the names of applications
+abbrev pub app_names : List App → List (List ℕ)
+app_names apps = map (λ app. app.name) apps
 
 -- a name that no application before it has
 unfoldable pub unused : List App → Option Data → Result (List ℕ) Fault
 unused before v = do
   text ← name v
-  if has_name (names_of before) text then Err (Double []) else Ok text
+  if is_listed (app_names before) text then Err (Double []) else Ok text
 
 unfoldable pub unused_at : List ℕ → List App → Members → Result (List ℕ) Fault
 unused_at k before ms = at k ms (unused before)
 
-abbrev pub kind_of : FlawKind → TextKind
-kind_of flaw.Double = kind.Double
-kind_of flaw.UnknownName = kind.UnknownName
-kind_of flaw.Kind = kind.Kind
+abbrev pub text_kind_of : FlawKind → TextKind
+text_kind_of flaw.Double = kind.Double
+text_kind_of flaw.UnknownName = kind.UnknownName
+text_kind_of flaw.Kind = kind.Kind
 
 -- what the text of the application with this index comes to
-abbrev pub told : ℕ → Verdict → Result (List Op) Fault
-told app (accepted ops) = Ok ops
-told app (syntax_fault at) = Err (Contract app kind.Syntax at)
-told app (limit_fault at) = Err (Contract app kind.Limit at)
-told app (flawed f) = Err (Contract app (kind_of f.kind) f.at)
+abbrev pub ops_told : ℕ → Verdict → Result (List Op) Fault
+ops_told app (accepted ops) = Ok ops
+ops_told app (syntax_fault at) = Err (Contract app kind.Syntax at)
+ops_told app (limit_fault at) = Err (Contract app kind.Limit at)
+ops_told app (flawed f) = Err (Contract app (text_kind_of f.kind) f.at)
 
 -- a text of at most 65,536 bytes, and then its reading
 unfoldable pub text_read : ℕ → List ℕ → Result (List Op) Fault
-text_read app text = if nat_le (length text) 65536 then told app (verdict text) else Err (Limit word.Contract 65536)
+text_read app text = if nat_le (length text) 65536 then ops_told app (verdict text) else Err (Limit word.Contract 65536)
 
 -- the contract of the application with this index
 unfoldable pub contract : ℕ → Option Data → Result (List Op) Fault
@@ -51,23 +53,18 @@ contract app v = do
 unfoldable pub contract_at : List ℕ → ℕ → Members → Result (List Op) Fault
 contract_at k app ms = at k ms (contract app)
 
--- the agents are peers
-unfoldable pub agents_at : List (List ℕ) → Members → Result (List ℕ) Fault
-agents_at peers ms = list_at (codes "agents") 1 16 word.Agents (new_reference (λ p. p) (place_below 256 peers)) [] ms
-
-unfoldable pub no_others : Members → Result ⊤ Fault
-no_others ms = only (codes "name" ∷ codes "agents" ∷ codes "tau" ∷ codes "clients" ∷ codes "contract" ∷ []) ms
+unfoldable pub only_app_keys : Members → Result ⊤ Fault
+only_app_keys ms = only (codes "name" ∷ codes "agents" ∷ codes "tau" ∷ codes "clients" ∷ codes "contract" ∷ []) ms
 
 -- an application behind those before it
 unfoldable pub application : List (List ℕ) → List App → Members → Result App Fault
 application peers before ms = do
   called ← unused_at (codes "name") before ms
-  agents ← agents_at peers ms
-  tau ← number_at (codes "tau") 1 (length agents) word.Tau ms
+  who ← agents_and_tau peers ms
   clients ← list_at (codes "clients") 0 64 word.Clients (new_name []) [] ms
   ops ← contract_at (codes "contract") (length before) ms
-  rest ← no_others ms
-  Ok (record { name = called; agents = agents; tau = tau; clients = clients; ops = ops })
+  rest ← only_app_keys ms
+  Ok (record { name = called; agents = who.agents; tau = who.tau; clients = clients; ops = ops })
 
 -- the application that an item is
 unfoldable pub app_in : List (List ℕ) → List App → Data → Result App Fault

@@ -5,25 +5,24 @@ use Rattle.serde_json.specs.Find.{get_member}
 use Rattle.oxii_defs.specs.Syntax.{Op}
 use Rattle.oxii_defs.specs.WellFormed.{AllDiffer}
 use Rattle.oxii_defs.specs.Table.{App}
-use Rattle.contract_text.specs.Verdict.{accepted, verdict}
-use Rattle.doc_forms.specs.Tables.{place_below}
-use Rattle.doc_forms.specs.Meaning.{HasText, HasName, HasNumber, HasOnly, HasList, HasNames, HasSet}
-use Rattle.doc_tables.specs.Apps.{names_of}
+use Rattle.contract_text.specs.TextMeaning.{IsContract}
+use Rattle.doc_forms.specs.Meaning.{HasText, HasName, HasOnly, HasList, HasNames}
+use Rattle.doc_forms.specs.Agents.{HasAgents}
+use Rattle.doc_tables.specs.Apps.{app_names}
 
--- the text of a contract, which stands for these operations
+-- the text of a contract, which stands for these operations by the grammar, the limits and the flaws
 pub record HasContract (v : Option Data) (ops : List Op) : Type 0 where
   pub text : List ℕ
   pub is : HasText v text
   pub short : length text ≤ 65536
-  pub accepted : verdict text ≡ accepted ops
+  pub is_contract : IsContract text ops
 
 -- an application's object: its name, its agents among the peers, how many of their votes agree, its clients, and its operations
 pub record SaysApp (peers : List (List ℕ)) (d : Data) (app : App) : Type 0 where
   pub members : Members
   pub is : d ≡ object members
   pub name : HasName (get_member (codes "name") members) app.name
-  pub agents : HasSet (λ p. p) (place_below 256 peers) 1 16 (get_member (codes "agents") members) app.agents
-  pub tau : HasNumber 1 (length app.agents) (get_member (codes "tau") members) app.tau
+  pub agents : HasAgents peers members app.agents app.tau
   pub clients : HasNames [] 0 64 (get_member (codes "clients") members) app.clients
   pub contract : HasContract (get_member (codes "contract") members) app.ops
   pub only : HasOnly (codes "name" ∷ codes "agents" ∷ codes "tau" ∷ codes "clients" ∷ codes "contract" ∷ []) members
@@ -31,4 +30,4 @@ pub record SaysApp (peers : List (List ℕ)) (d : Data) (app : App) : Type 0 whe
 -- 1 to 16 applications, whose names differ
 pub record SaysApps (peers : List (List ℕ)) (ms : Members) (apps : List App) : Type 0 where
   pub list : HasList (SaysApp peers) 1 16 (get_member (codes "apps") ms) apps
-  pub differ : AllDiffer (names_of apps)
+  pub differ : AllDiffer (app_names apps)

@@ -4,6 +4,7 @@ pub use Rattle.txn_types.specs.Values
 pub use Rattle.oxii_defs.specs.Table
 pub use Rattle.oxii_defs.specs.Lawful
 pub use Rattle.txn_core.specs.MeantTable
+pub use Rattle.contract_text.specs.TextMeaning
 pub use Rattle.contract_text.specs.Verdict
 pub use Rattle.doc_forms.specs.Check
 pub use Rattle.doc_forms.specs.Meaning

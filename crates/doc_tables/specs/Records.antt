@@ -29,9 +29,10 @@ pair d = do
   ds ← wanted (as_array d)
   if items_len ds == 2 then Ok tt else Err (Field [])
 
-abbrev pub is_new : Option ℕ → Result ⊤ Fault
-is_new (Some i) = Err (Double [])
-is_new None = Ok tt
+-- no such name stands there
+abbrev pub no_place : Option ℕ → Result ⊤ Fault
+no_place (Some i) = Err (Double [])
+no_place None = Ok tt
 
 -- a record among those before it, by its name
 abbrev pub with_record : Valued → List ℕ → ℕ → Valued
@@ -42,8 +43,8 @@ unfoldable pub next_record : Valued → Data → Result Valued Fault
 next_record before d = do
   two ← pair d
   text ← name (find.at 0 d)
-  new ← is_new (place_of before.names text)
-  n ← number_in 0 4611686018427387903 word.Value (find.at 1 d)
+  new ← no_place (place_of before.names text)
+  n ← number_in 0 max_value word.Value (find.at 1 d)
   Ok (with_record before text n)
 
 unfoldable pub records : Members → Result Valued Fault

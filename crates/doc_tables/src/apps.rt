@@ -6,22 +6,22 @@ ghost use Rattle.std.specs.Str.{bytes_eq};
 ghost use Rattle.serde_json.specs.View.{view, items_view, members_view};
 ghost use Rattle.txn_core.specs.Meant.{op_of};
 ghost use Rattle.txn_core.specs.MeantTable.{app_of};
-ghost use Rattle.contract_text.specs.Verdict.{Verdict, Gives as GivesText};
-ghost use Rattle.doc_forms.specs.declared.fault.Which.TheVariants.{Clients, Tau};
+ghost use Rattle.contract_text.specs.Verdict.{Verdict, GivesVerdict};
+ghost use Rattle.doc_forms.specs.declared.fault.Which.TheVariants.{Clients};
 ghost use Rattle.doc_forms.specs.Check.{Gives, Fails};
-ghost use Rattle.doc_forms.specs.Forms.{seen, each, list_at, number_at};
-ghost use Rattle.doc_forms.specs.Tables.{has_name, new_name};
-ghost use Rattle.doc_tables.specs.Apps.{names_of, unused, unused_at, told, text_read, contract, contract_at, agents_at, no_others, application, app_in, next_app, apps_in, apps};
+ghost use Rattle.doc_forms.specs.Forms.{seen, is_listed, each, list_at};
+ghost use Rattle.doc_forms.specs.Tables.{new_name};
+ghost use Rattle.doc_tables.specs.Apps.{app_names, unused, unused_at, ops_told, text_read, contract, contract_at, only_app_keys, application, app_in, next_app, apps_in, apps};
 
 use contract_text::{TextFault, read_contract};
 use doc_forms::{
-    DocFault, NewName, NewReference, Which, at, at_item, double_fault, field_fault, list_at,
-    list_in, member, name, number_at, object, only,
+    DocFault, NewName, Which, at, at_item, double_fault, field_fault, list_at, list_in, member,
+    name, object, only, read_agents_and_tau,
 };
 use serde_json::{Map, Value};
 use std::alloc::Global;
 use txn_core::{App, Apps, Ops};
-use txn_types::{GrowingList, Name, Names, PeerSet};
+use txn_types::{Name, Names};
 
 fn some_is_named(apps: &[App], text: &[u8]) -> bool
     ensures { result ≡ list_any (λ app. bytes_eq app.name text.now) apps.now }
@@ -31,7 +31,7 @@ fn some_is_named(apps: &[App], text: &[u8]) -> bool
 
 /// Whether an application has this name.
 fn is_taken(before: &[App], text: &[u8]) -> bool
-    ensures { result ≡ has_name (names_of (map app_of before.now)) text.now }
+    ensures { result ≡ is_listed (app_names (map app_of before.now)) text.now }
 {
     some_is_named(before, text)
 }
@@ -62,7 +62,7 @@ fn unused_at(
 
 /// The fault of an application's contract.
 fn contract_fault(app: u32, fault: TextFault) -> DocFault
-    ensures { (v : Verdict) → GivesText (Err fault) v → Fails result (told app v) }
+    ensures { (v : Verdict) → GivesVerdict (Err fault) v → Fails result (ops_told app v) }
 {
     match fault {
         TextFault::OutOfMemory => DocFault::OutOfMemory,
@@ -113,49 +113,6 @@ fn contract_at(
     at(alloc, key, contract(alloc, app, member(members, key)))
 }
 
-#[tactic(auto, unfolding(crate::specs::Apps::agents_at))]
-fn agent_list(
-    alloc: Global,
-    peers: &Names,
-    members: &Map<String, Value>,
-) -> Result<GrowingList<u8>, DocFault>
-    ensures { Gives (λ agents. agents) result (agents_at peers.now (members_view members.now.entries)) }
-{
-    list_at(
-        alloc,
-        members,
-        "agents",
-        1,
-        16,
-        Which::Agents,
-        &NewReference { table: peers },
-        GrowingList::new(alloc),
-    )
-}
-
-/// The agents, among the peers.
-#[tactic(auto, using(crate::proofs::AppsMeant::agents_fit))]
-fn agents_at(
-    alloc: Global,
-    peers: &Names,
-    members: &Map<String, Value>,
-) -> Result<PeerSet, DocFault>
-    ensures { Gives (λ agents. agents) result (agents_at peers.now (members_view members.now.entries)) }
-{
-    let list = agent_list(alloc, peers, members)?;
-    Ok(PeerSet::of(list.as_slice()))
-}
-
-/// How many votes agree, of so many agents.
-#[tactic(auto, using(crate::proofs::AppsMeant::votes_fit))]
-fn votes_at(alloc: Global, count: usize, members: &Map<String, Value>) -> Result<u8, DocFault>
-    requires { count ≤ 16 }
-    ensures { Gives (λ n. n) result (number_at (codes "tau") 1 count Tau (members_view members.now.entries)) }
-{
-    let n = number_at(alloc, members, "tau", 1, count as u64, Which::Tau)?;
-    Ok(n as u8)
-}
-
 fn clients_at(alloc: Global, members: &Map<String, Value>) -> Result<Names, DocFault>
     ensures { Gives (λ names. names) result (list_at (codes "clients") 0 64 Clients (new_name []) [] (members_view members.now.entries)) }
 {
@@ -171,9 +128,9 @@ fn clients_at(alloc: Global, members: &Map<String, Value>) -> Result<Names, DocF
     )
 }
 
-#[tactic(auto, unfolding(crate::specs::Apps::no_others))]
-fn no_others(alloc: Global, members: &Map<String, Value>) -> Result<(), DocFault>
-    ensures { Gives (λ u. u) result (no_others (members_view members.now.entries)) }
+#[tactic(auto, unfolding(crate::specs::Apps::only_app_keys))]
+fn only_app_keys(alloc: Global, members: &Map<String, Value>) -> Result<(), DocFault>
+    ensures { Gives (λ u. u) result (only_app_keys (members_view members.now.entries)) }
 {
     only(
         alloc,
@@ -194,15 +151,14 @@ fn application(
     ensures { Gives app_of result (application peers.now (map app_of before.now) (members_view members.now.entries)) }
 {
     let name = unused_at(alloc, "name", before, members)?;
-    let agents = agents_at(alloc, peers, members)?;
-    let tau = votes_at(alloc, agents.as_slice().len(), members)?;
+    let who = read_agents_and_tau(alloc, peers, members)?;
     let clients = clients_at(alloc, members)?;
     let ops = contract_at(alloc, "contract", before.len() as u32, members)?;
-    no_others(alloc, members)?;
+    only_app_keys(alloc, members)?;
     Ok(App {
         name,
-        agents,
-        tau,
+        agents: who.agents,
+        tau: who.tau,
         clients,
         ops,
     })

@@ -4,7 +4,7 @@ ghost use Rattle.serde_json.specs.View.{members_view};
 ghost use Rattle.doc_forms.specs.Check.{Gives};
 ghost use Rattle.doc_tables.specs.Faulty.{faulty};
 
-use doc_forms::{DocFault, NewReference, Nodes, Which, list_at};
+use doc_forms::{DocFault, NewReference, NodeNames, Which, list_at};
 use serde_json::{Map, Value};
 use std::alloc::Global;
 use txn_types::{GrowingList, Node, NodeSet};
@@ -12,7 +12,7 @@ use txn_types::{GrowingList, Node, NodeSet};
 #[tactic(auto, unfolding(crate::specs::Faulty::faulty))]
 fn faulty_list(
     alloc: Global,
-    nodes: &Nodes,
+    nodes: &NodeNames,
     members: &Map<String, Value>,
 ) -> Result<GrowingList<Node>, DocFault>
     ensures { Gives (λ s. s) result (faulty nodes.now.orderers.now nodes.now.peers.now (members_view members.now.entries)) }
@@ -33,7 +33,7 @@ fn faulty_list(
 #[tactic(auto, using(crate::proofs::FaultyMeant::faulty_fit))]
 pub fn read_faulty(
     alloc: Global,
-    nodes: &Nodes,
+    nodes: &NodeNames,
     members: &Map<String, Value>,
 ) -> Result<NodeSet, DocFault>
     ensures { Gives (λ s. s) result (faulty nodes.now.orderers.now nodes.now.peers.now (members_view members.now.entries)) }

@@ -3,7 +3,7 @@
 ghost use Rattle.std.specs.Prelude.{◌≡◌, IfOk};
 ghost use Rattle.serde_json.specs.View.{view, members_view};
 ghost use Rattle.std.specs.List.{insert};
-ghost use Rattle.txn_types.specs.Values.{IsValue, AreValues};
+ghost use Rattle.txn_types.specs.Values.{max_value, IsValue, AreValues};
 ghost use Rattle.doc_forms.specs.declared.fault.Which.TheVariants as word;
 ghost use Rattle.doc_forms.specs.Check.{Gives};
 ghost use Rattle.doc_forms.specs.Forms.{seen, number_in};
@@ -16,7 +16,7 @@ use doc_forms::{
 use serde_json::{Map, Value};
 use std::alloc::Global;
 use std::marker::Model;
-use txn_types::{GrowingList, Name, Names, OutOfMemory, Values};
+use txn_types::{GrowingList, MAX, Name, Names, OutOfMemory, Values};
 
 /// The records of a document, in byte order of their names, and the value of each.
 #[derive(Drop)]
@@ -84,10 +84,10 @@ fn pair(alloc: Global, item: &Value) -> Result<(), DocFault>
 
 #[tactic(auto, using(crate::proofs::RecordsKept::read_value))]
 fn value_in(alloc: Global, value: Option<&Value>) -> Result<u64, DocFault>
-    ensures check { Gives (λ n. n) result (number_in 0 4611686018427387903 word.Value (seen value.entry)) }
+    ensures check { Gives (λ n. n) result (number_in 0 max_value word.Value (seen value.entry)) }
     ensures value { IfOk result IsValue }
 {
-    number_in(alloc, 0, 4611686018427387903, Which::Value, value)
+    number_in(alloc, 0, MAX, Which::Value, value)
 }
 
 // A record put at its place.

@@ -14,12 +14,12 @@ pub fn json(alloc: Global, text: &str) -> Result<String, AllocError> {
     text.replace(alloc, "'", "\"")
 }
 
-/// The text with its first `old` replaced, or nothing where it has none.
-pub fn replaced(alloc: Global, text: &str, old: &str, new: &str) -> Result<String, AllocError> {
+/// The text with its first `old` replaced, which it has.
+pub fn replaced(alloc: Global, text: &str, old: &str, new: &str) -> Result<String, Trouble> {
     let Some((before, after)) = text.split_once(old) else {
-        return Ok(String::new(alloc));
+        return Err(Trouble::NotThere);
     };
-    format!(in alloc; "{before}{new}{after}")
+    Ok(format!(in alloc; "{before}{new}{after}")?)
 }
 
 fn repeated(alloc: Global, count: u32, piece: &str) -> Result<String, AllocError> {
@@ -44,8 +44,8 @@ fn repetition(text: &str) -> Option<(u32, &str, &str)> {
     }
 }
 
-// The text with its last repetition written out.
-fn expanded(alloc: Global, text: &str) -> Result<String, AllocError> {
+/// The text with its last repetition written out.
+pub fn expanded(alloc: Global, text: &str) -> Result<String, AllocError> {
     if let Some((before, rest)) = text.rsplit_once("<")
         && let Some((count, piece, after)) = repetition(rest)
     {
@@ -56,9 +56,9 @@ fn expanded(alloc: Global, text: &str) -> Result<String, AllocError> {
 }
 
 // The text with one replacement of a row.
-fn edited_once(alloc: Global, text: &str, edit: &str) -> Result<String, AllocError> {
+fn edited_once(alloc: Global, text: &str, edit: &str) -> Result<String, Trouble> {
     let Some((old, new)) = edit.split_once(" -> ") else {
-        return Ok(String::new(alloc));
+        return Err(Trouble::NoRow);
     };
     let new = if new == "nothing" { "" } else { new };
     let inner = expanded(alloc, new)?;
@@ -67,7 +67,7 @@ fn edited_once(alloc: Global, text: &str, edit: &str) -> Result<String, AllocErr
 }
 
 /// The text with the replacements of a row.
-pub fn edited(alloc: Global, text: &str, edits: &str) -> Result<String, AllocError> {
+pub fn edited(alloc: Global, text: &str, edits: &str) -> Result<String, Trouble> {
     let mut text = String::from_str(alloc, text)?;
     for edit in edits.split(" && ") {
         text = edited_once(alloc, text.as_str(), edit)?;
@@ -84,7 +84,26 @@ fn line_with(alloc: Global, fault: &str) -> Result<String, AllocError> {
     }
 }
 
-/// The first row that the command answers by another line, with that line; nothing where each row is answered as it says.
+// What the command says of the document of a row, or why there is none.
+fn said<R: Threads + Sync>(
+    rt: &R,
+    alloc: Global,
+    command: &str,
+    text: &str,
+    edits: &str,
+) -> Result<String, Trouble> {
+    match edited(alloc, text, edits) {
+        Ok(document) => {
+            let document = json(alloc, document.as_str())?;
+            Ok(answer(rt, alloc, command, document.as_bytes())?.line)
+        }
+        Err(Trouble::NotThere) => Ok(String::from_str(alloc, "what it replaces is not there\n")?),
+        Err(Trouble::NoRow) => Ok(String::from_str(alloc, "it replaces nothing\n")?),
+        Err(trouble) => Err(trouble),
+    }
+}
+
+/// The first row that the command answers by another line, or that has no document, with what is said instead; nothing where each row is answered as it says.
 pub fn wrong_row<R: Threads + Sync>(
     rt: &R,
     alloc: Global,
@@ -96,8 +115,7 @@ pub fn wrong_row<R: Threads + Sync>(
         let Some((edits, fault)) = row.split_once(" => ") else {
             return Ok(format!(in alloc; "no row: {row}")?);
         };
-        let document = json(alloc, edited(alloc, text, edits)?.as_str())?;
-        let line = answer(rt, alloc, command, document.as_bytes())?.line;
+        let line = said(rt, alloc, command, text, edits)?;
         if line.as_str() != line_with(alloc, fault)?.as_str() {
             return Ok(format!(in alloc; "{row}: {line}")?);
         }

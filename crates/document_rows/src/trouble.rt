@@ -1,5 +1,6 @@
 use std::alloc::{AllocError, AllocFailed};
 use std::str::Utf8Error;
+use txn_types::OutOfMemory;
 
 /// Why a row can't be told.
 #[derive(Clone, Copy, Debug, PartialEq, Eq)]
@@ -8,6 +9,10 @@ pub enum Trouble {
     Memory,
     /// What was written isn't UTF-8.
     Text,
+    /// A row replaces what isn't in its document.
+    NotThere,
+    /// A row has no replacement.
+    NoRow,
 }
 
 impl From<AllocError> for Trouble {
@@ -22,14 +27,8 @@ impl<T: Drop> From<AllocFailed<T>> for Trouble {
     }
 }
 
-impl From<par_io::OutOfMemory> for Trouble {
-    fn from(_: par_io::OutOfMemory) -> Trouble {
-        Trouble::Memory
-    }
-}
-
-impl From<txn_core::OutOfMemory> for Trouble {
-    fn from(_: txn_core::OutOfMemory) -> Trouble {
+impl From<OutOfMemory> for Trouble {
+    fn from(_: OutOfMemory) -> Trouble {
         Trouble::Memory
     }
 }

@@ -1,7 +1,6 @@
 -- The last entry of a ledger, and one more.
-use Rattle.std.proofs.Common.{◌≡◌, ◌+◌, ◌<◌, ◌≤◌, ◌-◌, ℕ, suc, List, [], ◌∷◌, ◌++◌, length, get_or, refl, sym, ap, subst, ◌∙◌, arith}
+use Rattle.std.proofs.Common.{◌≡◌, ◌+◌, ◌≤◌, ◌-◌, ℕ, suc, List, [], ◌∷◌, ◌++◌, length, get_or, sym, ap, subst, ◌∙◌, arith}
 use Rattle.std.specs.Prelude.{Result, Ok, Err, OnOk, OnErr}
-use Rattle.txn_types.specs.declared.memory.OutOfMemory.{OutOfMemory}
 use Rattle.oxii_defs.specs.Chain.{no_hash}
 use Rattle.hash_ledger.specs.declared.entry.Entry.{Entry}
 use Rattle.hash_ledger.specs.Ledgers.{AreLinked, tip_behind, tip_of}
@@ -23,7 +22,7 @@ tip_is (x ∷ rest) last some is =
     sym (tip_at no_hash x rest last (is ∙ ap (λ (i : ℕ). get_or (x ∷ rest) i last) place))
 
 -- a ledger is linked after a push, whatever it answered
-pub linked_after : (old new entries : List Entry) (e : Entry) (answer : Result (Unit {0}) OutOfMemory)
+pub linked_after : {Refusal : Type 0} → (old new entries : List Entry) (e : Entry) (answer : Result (Unit {0}) Refusal)
     → OnOk answer (new ≡ old ++ e ∷ []) → OnErr answer (new ≡ old)
     → AreLinked 1 no_hash old → old ≡ entries → e.block.number ≡ length entries + 1 → e.block.prev ≡ tip_of entries
     → AreLinked 1 no_hash new

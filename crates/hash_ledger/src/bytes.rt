@@ -8,7 +8,8 @@ ghost use Rattle.txn_core.specs.MeantTable.{table_of};
 
 use crate::feed::{Feed, Hashing};
 use std::alloc::Global;
-use txn_core::{Arg, Block, Bytes, Config, Name, OutOfMemory, Table, Txn};
+use txn_core::Table;
+use txn_types::{Arg, Block, Bytes, Config, Name, OutOfMemory, Txn};
 
 fn feed_name<F: Feed>(out: &mut F, name: &Name) -> Result<(), F::Refusal>
     ensures { OnOk result ((m : List ℕ) → F.has out.old m → F.has out.new (m ++ name_bytes name.now)) }

@@ -1,4 +1,4 @@
-use txn_core::{Block, Outcomes};
+use txn_types::{Block, Outcomes};
 
 /// A block of a ledger, with the outcome of each of its transactions and its hash.
 #[derive(Drop)]

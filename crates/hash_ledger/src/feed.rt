@@ -5,7 +5,7 @@ ghost use Rattle.sha2.specs.Sha256.{sha256};
 
 use sha2::{Digest, Sha256};
 use std::convert::Infallible;
-use txn_core::{Bytes, OutOfMemory};
+use txn_types::{Bytes, OutOfMemory};
 
 /// What takes bytes piece by piece.
 pub trait Feed {

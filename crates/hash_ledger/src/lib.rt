@@ -6,8 +6,6 @@ mod entry;
 mod feed;
 mod ledger;
 mod links;
-#[cfg(test)]
-mod tests;
 
 pub use bytes::{block_bytes, block_hash};
 pub use entry::Entry;

@@ -7,7 +7,8 @@ ghost use Rattle.txn_core.specs.MeantTable.{table_of};
 
 use crate::block_hash;
 use std::alloc::Global;
-use txn_core::{Block, Blocks, Bodies, Body, Copies, OutOfMemory, Table};
+use txn_core::Table;
+use txn_types::{Block, Blocks, Bodies, Body, Copies, OutOfMemory};
 
 /// The blocks of these bodies, numbered from 1 and linked by their hashes.
 pub fn chain(alloc: Global, table: &Table, bodies: &Bodies) -> Result<Blocks, OutOfMemory>

@@ -4,7 +4,7 @@ use Rattle.std.specs.Prelude.{IfOk, IfErr}
 use Rattle.doc_forms.specs.declared.fault.DocFault.{DocFault}
 use Rattle.doc_forms.specs.declared.fault.DocFault.TheVariants as doc
 use Rattle.doc_forms.specs.Check.{Fails, Gives}
-use Rattle.input_doc.specs.declared.parts.Input.{Input}
+use Rattle.input_doc.specs.declared.input.Input.{Input}
 use Rattle.input_doc.specs.Inputs.{IsLawfulInput}
 use Rattle.input_doc.specs.Held.{input_of}
 use Rattle.input_doc.specs.Reading.{reading}

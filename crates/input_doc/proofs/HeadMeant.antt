@@ -16,7 +16,7 @@ use Rattle.doc_forms.specs.Forms as form
 use Rattle.doc_forms.specs.Forms.{wanted, whole, number_at}
 use Rattle.doc_forms.specs.Meaning.{HasText}
 use Rattle.doc_forms.proofs.Meant.{bind_ok, within_ok, wanted_ok, whole_is, text_is, passed, members_are, number_at_means, number_at_reads, only_means, only_reads}
-use Rattle.input_doc.specs.Head.{version, version_at, kind_of, kind, kind_at, kind_word, cut, cut_at, SaysCut}
+use Rattle.input_doc.specs.Head.{version, version_at, kind_named, kind, graph_kind_at, graph_kind_word, cut, cut_at, SaysCut}
 
 -- the version
 
@@ -34,38 +34,38 @@ version_reads ms h = rw h refl
 
 -- the kind
 
-kind_is : (text : List ℕ) (k : Kind) → kind_of text ≡ Some k → text ≡ kind_word k
-unfolding kind_of
+kind_is : (text : List ℕ) (k : Kind) → kind_named text ≡ Some k → text ≡ graph_kind_word k
+unfolding kind_named
 kind_is text k e = by_full (bytes_eq text (codes "full")) refl e
   where
     raw : Option Kind
     raw = cond (bytes_eq text (codes "raw")) (Some Raw) None
 
-    by_word : (j : Kind) → text ≡ kind_word j → Some j ≡ Some k → text ≡ kind_word k
-    by_word j is same = let one : j ≡ k = cc in is ∙ ap kind_word one
+    by_word : (j : Kind) → text ≡ graph_kind_word j → Some j ≡ Some k → text ≡ graph_kind_word k
+    by_word j is same = let one : j ≡ k = cc in is ∙ ap graph_kind_word one
 
-    by_raw : (b : Bool) → bytes_eq text (codes "raw") ≡ b → cond b (Some Raw) None ≡ Some k → text ≡ kind_word k
+    by_raw : (b : Bool) → bytes_eq text (codes "raw") ≡ b → cond b (Some Raw) None ≡ Some k → text ≡ graph_kind_word k
     by_raw true is same = by_word Raw ((bytes_eq-Decides text (codes "raw")).0 is) same
     by_raw false is same = absurd cc
 
-    by_full : (b : Bool) → bytes_eq text (codes "full") ≡ b → cond b (Some Full) (cond (bytes_eq text (codes "raw")) (Some Raw) None) ≡ Some k → text ≡ kind_word k
+    by_full : (b : Bool) → bytes_eq text (codes "full") ≡ b → cond b (Some Full) (cond (bytes_eq text (codes "raw")) (Some Raw) None) ≡ Some k → text ≡ graph_kind_word k
     by_full true is same = by_word Full ((bytes_eq-Decides text (codes "full")).0 is) same
     by_full false is same = by_raw (bytes_eq text (codes "raw")) refl same
 
-kind_told : (k : Kind) → kind_of (kind_word k) ≡ Some k
-unfolding kind_of
+kind_told : (k : Kind) → kind_named (graph_kind_word k) ≡ Some k
+unfolding kind_named
 kind_told Full = refl
 kind_told Raw = refl
 
-pub kind_means : (ms : Members) (k : Kind) → kind_at (codes "kind") ms ≡ Ok k → HasText (get_member (codes "kind") ms) (kind_word k)
-unfolding kind_at kind
+pub kind_means : (ms : Members) (k : Kind) → graph_kind_at (codes "kind") ms ≡ Ok k → HasText (get_member (codes "kind") ms) (graph_kind_word k)
+unfolding graph_kind_at kind
 kind_means ms k e =
     let v = within_ok (Key (codes "kind")) _ k e in
     let a = bind_ok (wanted (option_and_then as_str (get_member (codes "kind") ms))) _ k v in
-    text_is (get_member (codes "kind") ms) (kind_word k) (wanted_ok _ _ a.1 ∙ ap (λ (t : List ℕ). Some t) (kind_is a.0 k (wanted_ok (kind_of a.0) k a.2)))
+    text_is (get_member (codes "kind") ms) (graph_kind_word k) (wanted_ok _ _ a.1 ∙ ap (λ (t : List ℕ). Some t) (kind_is a.0 k (wanted_ok (kind_named a.0) k a.2)))
 
-pub kind_reads : (ms : Members) (k : Kind) → HasText (get_member (codes "kind") ms) (kind_word k) → kind_at (codes "kind") ms ≡ Ok k
-unfolding kind_at kind
+pub kind_reads : (ms : Members) (k : Kind) → HasText (get_member (codes "kind") ms) (graph_kind_word k) → graph_kind_at (codes "kind") ms ≡ Ok k
+unfolding graph_kind_at kind
 kind_reads ms k h = rw (h, kind_told k) refl
 
 -- how the stream is cut

@@ -2,6 +2,8 @@ pub mod Sizes
 pub mod HeadMeant
 pub mod TablesLawful
 pub mod Trees
+pub mod PiecesFew
+pub mod FaultyLawful
 pub mod Whole
 pub mod Once
 pub mod Answered

@@ -1,6 +1,7 @@
 -- What a document's tables and stream are lawful for.
 use Rattle.std.proofs.Common.{◌≡◌, ◌≤◌, List, [], length, Result, Ok, refl, subst, arith}
 use Rattle.std.specs.Prelude.{codes}
+use Rattle.std.proofs.lemmas.List.{length-map}
 use Rattle.std.specs.List.{All}
 use Rattle.serde_json.specs.Data.{Members}
 use Rattle.serde_json.specs.Find.{get_member}
@@ -18,15 +19,18 @@ use Rattle.doc_forms.specs.Meaning.{HasNumber, HasNames}
 use Rattle.doc_forms.proofs.Meant.{bind_ok, number_at_means, number_at_reads}
 use Rattle.doc_forms.proofs.NamesMeant.{names_at_mean, names_at_read}
 use Rattle.doc_tables.specs.Records.{Valued, records, SaysRecords}
-use Rattle.doc_tables.specs.Apps.{apps}
+use Rattle.doc_tables.specs.Apps.{app_names, apps}
 use Rattle.doc_tables.specs.AppsMeaning.{SaysApps}
+use Rattle.doc_forms.proofs.LookUps.{AreNumbered, NodesDiffer}
+use Rattle.doc_tables.proofs.RecordsSorted.{order_differs}
 use Rattle.doc_tables.proofs.RecordsMeant.{records_mean, records_read, records_kept}
 use Rattle.doc_tables.proofs.AppsMeant.{apps_mean, apps_read}
 use Rattle.doc_tables.proofs.AppsLawful.{apps_lawful}
-use Rattle.doc_stream.proofs.StreamMeant.{stream_means}
+use Rattle.doc_stream.proofs.StreamMeant.{AreTables, stream_means}
 use Rattle.doc_stream.proofs.StreamLawful.{stream_lawful}
-use Rattle.input_doc.specs.Reading.{Nodes, Tables, nodes, tables, items_for, app_names}
-use Rattle.input_doc.proofs.Sizes.{names_fit}
+use Rattle.input_doc.specs.declared.tables.DocNodes.{DocNodes}
+use Rattle.input_doc.specs.Reading.{Tables, nodes, tables, items_for}
+use Rattle.input_doc.proofs.Sizes.{names_fit, peers_numbered, nodes_differ}
 
 -- the parts of the table, each with what it says
 pub record Parts (kind : Kind) (ms : Members) (t : Tables) : Type 0 where
@@ -37,10 +41,10 @@ pub record Parts (kind : Kind) (ms : Members) (t : Tables) : Type 0 where
   pub peers : HasNames t.table.orderers 1 16 (get_member (codes "peers") ms) t.table.peers
   pub apps : SaysApps t.table.peers ms t.table.apps
 
-abbrev nodes_are : Nodes → Result Nodes Fault
+abbrev nodes_are : DocNodes → Result DocNodes Fault
 nodes_are x = Ok x
 
-same_nodes : (x y : Nodes) → nodes_are x ≡ nodes_are y → x ≡ y
+same_nodes : (x y : DocNodes) → nodes_are x ≡ nodes_are y → x ≡ y
 same_nodes x y h = cc
 
 abbrev tables_are : Tables → Result Tables Fault
@@ -49,12 +53,12 @@ tables_are x = Ok x
 same_tables : (x y : Tables) → tables_are x ≡ tables_are y → x ≡ y
 same_tables x y h = cc
 
-record Said (ms : Members) (n : Nodes) : Type 0 where
+record Said (ms : Members) (n : DocNodes) : Type 0 where
   orderers : HasNames [] 1 16 (get_member (codes "orderers") ms) n.orderers
   quorum : HasNumber 1 (length n.orderers) (get_member (codes "quorum") ms) n.quorum
   peers : HasNames n.orderers 1 16 (get_member (codes "peers") ms) n.peers
 
-nodes_mean : (ms : Members) (n : Nodes) → nodes ms ≡ Ok n → Said ms n
+nodes_mean : (ms : Members) (n : DocNodes) → nodes ms ≡ Ok n → Said ms n
 unfolding nodes
 nodes_mean ms n e =
     let orderers = bind_ok (list_at (codes "orderers") 1 16 word.Orderers (new_name []) [] ms) _ n e in
@@ -83,7 +87,7 @@ tables_mean kind ms t e =
       orderers = said.orderers;
       quorum = said.quorum;
       peers = said.peers;
-      apps = apps_mean named.0.peers ms all.0 all.1;
+      apps = apps_mean named.0.peers (peers_numbered named.0.orderers _ named.0.peers said.peers) ms all.0 all.1;
     })
 
 parts_lawful : (kind : Kind) (ms : Members) (t : Tables) → Parts kind ms t → IsLawfulTable t.table
@@ -109,7 +113,7 @@ parts_lawful kind ms t p =
       lawful_apps = all.1;
     }
 
-nodes_read : (ms : Members) (n : Nodes) → HasNames [] 1 16 (get_member (codes "orderers") ms) n.orderers → HasNumber 1 (length n.orderers) (get_member (codes "quorum") ms) n.quorum → HasNames n.orderers 1 16 (get_member (codes "peers") ms) n.peers → nodes ms ≡ Ok n
+nodes_read : (ms : Members) (n : DocNodes) → HasNames [] 1 16 (get_member (codes "orderers") ms) n.orderers → HasNumber 1 (length n.orderers) (get_member (codes "quorum") ms) n.quorum → HasNames n.orderers 1 16 (get_member (codes "peers") ms) n.peers → nodes ms ≡ Ok n
 unfolding nodes
 nodes_read ms n orderers quorum peers =
     rw (names_at_read [] (codes "orderers") 1 16 word.Orderers ms n.orderers orderers, number_at_reads (codes "quorum") 1 (length n.orderers) word.Quorum ms n.quorum quorum, names_at_read n.orderers (codes "peers") 1 16 word.Peers ms n.peers peers) refl
@@ -122,7 +126,7 @@ tables_read ms t said orderers quorum peers all =
     rw (
       records_read ms (record { names = t.table.records; values = t.genesis }) said,
       nodes_read ms (record { orderers = t.table.orderers; quorum = t.table.quorum; peers = t.table.peers }) orderers quorum peers,
-      apps_read t.table.peers ms t.table.apps all,
+      apps_read t.table.peers (peers_numbered t.table.orderers _ t.table.peers peers) ms t.table.apps all,
     ) refl
 
 -- the table that a document's keys give is lawful
@@ -135,7 +139,33 @@ genesis_fits kind ms t e =
     let kept = records_kept ms (record { names = t.table.records; values = t.genesis }) (tables_mean kind ms t e).read in
     (kept.3, kept.2)
 
+-- the names of a document's tables are numbered
+pub record Numbered (table : Table) : Type 0 where
+  pub of_stream : AreTables table.records (app_names table.apps) table.peers
+  pub of_nodes : NodesDiffer table.orderers table.peers
+
+parts_numbered : (kind : Kind) (ms : Members) (t : Tables) → Parts kind ms t → Numbered t.table
+parts_numbered kind ms t p =
+    let valued : Valued = record { names = t.table.records; values = t.genesis } in
+    let kept = records_kept ms valued p.read in
+    let said = records_mean ms valued p.read in
+    let all = apps_lawful t.table ms t.table.apps p.apps in
+    let named = length-map t.table.apps (λ app. app.name) in
+    record {
+      of_stream = record {
+        of_records = record { differ = order_differs t.table.records said.order; few = omega (arith, kept.0) };
+        of_apps = record { differ = p.apps.differ; few = omega (arith, named, all.0.1) };
+        of_peers = peers_numbered t.table.orderers _ t.table.peers p.peers;
+      };
+      of_nodes = nodes_differ _ _ t.table.orderers t.table.peers p.orderers p.peers;
+    }
+
+pub table_is_numbered : (kind : Kind) (ms : Members) (t : Tables) → tables kind ms ≡ Ok t → Numbered t.table
+table_is_numbered kind ms t e = parts_numbered kind ms t (tables_mean kind ms t e)
+
 -- the items of the stream are lawful for the table
-pub items_are_lawful : (table : Table) (ms : Members) (items : List Item) → items_for table ms ≡ Ok items → All (IsLawfulItem table) items × (length items ≤ 8192)
+pub items_are_lawful : (kind : Kind) (ms : Members) (t : Tables) (items : List Item) → tables kind ms ≡ Ok t → items_for t.table ms ≡ Ok items → All (IsLawfulItem t.table) items × (length items ≤ 8192)
 unfolding items_for
-items_are_lawful table ms items e = stream_lawful table ms items (stream_means table.records (app_names table) table.peers ms items e)
+items_are_lawful kind ms t items said e =
+    let numbered = table_is_numbered kind ms t said in
+    stream_lawful t.table ms items (stream_means t.table.records (app_names t.table.apps) t.table.peers numbered.of_stream ms items e)

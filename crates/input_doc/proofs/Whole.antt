@@ -11,6 +11,9 @@ use Rattle.doc_forms.specs.Faults.{Fault}
 use Rattle.doc_forms.specs.Forms as form
 use Rattle.doc_forms.specs.Meaning.{HasOnly}
 use Rattle.doc_forms.proofs.Meant.{bind_ok, members_are, only_means, only_reads}
+use Rattle.node_defs.specs.Admission.{pieces_of}
+use Rattle.node_defs.specs.World.{setting_of}
+use Rattle.doc_tables.specs.Apps.{app_names}
 use Rattle.doc_tables.specs.Faulty.{faulty, SaysFaulty}
 use Rattle.doc_tables.proofs.FaultyMeant.{faulty_means, faulty_reads}
 use Rattle.doc_tables.proofs.RecordsMeant.{records_mean}
@@ -19,12 +22,17 @@ use Rattle.doc_stream.proofs.StreamMeant.{stream_means, stream_reads}
 use Rattle.doc_schedule.specs.Schedule.{schedule}
 use Rattle.doc_schedule.specs.ScheduleMeaning.{SaysSchedule}
 use Rattle.doc_schedule.proofs.ScheduleMeant.{schedule_means, schedule_reads}
+use Rattle.doc_schedule.proofs.ScheduleLaw.{schedule_lawful}
 use Rattle.input_doc.specs.Inputs.{Input, IsLawfulInput}
-use Rattle.input_doc.specs.Head.{version_at, kind_at, cut_at, SaysCut}
-use Rattle.input_doc.specs.Reading.{Head, Tables, Acts, head, tables, items_for, acts, no_others, slots_of, app_names, root_keys, document, tree_of, read_tree, reading}
+use Rattle.input_doc.specs.Head.{version_at, graph_kind_at, cut_at, SaysCut}
+use Rattle.input_doc.specs.declared.head.Head.{Head}
+use Rattle.input_doc.specs.declared.stream_and_schedule.FaultySchedule.{FaultySchedule}
+use Rattle.input_doc.specs.Reading.{Tables, first_keys, tables, items_for, faulty_schedule, only_root_keys, roles_of, root_keys, document, tree_of, read_tree, reading}
 use Rattle.input_doc.specs.Means.{SaysDocument, Means}
 use Rattle.input_doc.proofs.HeadMeant.{version_means, version_reads, kind_means, kind_reads, cut_means, cut_reads}
-use Rattle.input_doc.proofs.TablesLawful.{tables_mean, tables_read, table_is_lawful, genesis_fits, items_are_lawful}
+use Rattle.input_doc.proofs.TablesLawful.{Numbered, tables_mean, tables_read, table_is_lawful, table_is_numbered, genesis_fits, items_are_lawful}
+use Rattle.input_doc.proofs.PiecesFew.{few_txns, few_configs}
+use Rattle.input_doc.proofs.FaultyLawful.{faulty_are_nodes, faulty_are_few}
 
 abbrev head_is : Head → Result Head Fault
 head_is x = Ok x
@@ -35,11 +43,11 @@ same_head x y h = cc
 abbrev tables_are : Tables → Result Tables Fault
 tables_are x = Ok x
 
-abbrev acts_are : Acts → Result Acts Fault
-acts_are x = Ok x
+abbrev faulty_schedule_is : FaultySchedule → Result FaultySchedule Fault
+faulty_schedule_is x = Ok x
 
-same_acts : (x y : Acts) → acts_are x ≡ acts_are y → x ≡ y
-same_acts x y h = cc
+same_faulty_schedule : (x y : FaultySchedule) → faulty_schedule_is x ≡ faulty_schedule_is y → x ≡ y
+same_faulty_schedule x y h = cc
 
 abbrev input_is : Input → Result Input Fault
 input_is x = Ok x
@@ -50,53 +58,53 @@ same_input x y h = cc
 -- the first keys
 
 abbrev HeadSaid : Members → Head → Type 0
-HeadSaid ms h = (version_at (codes "version") ms ≡ Ok tt) × (kind_at (codes "kind") ms ≡ Ok h.kind) × (cut_at (codes "cut") ms ≡ Ok h.limits)
+HeadSaid ms h = (version_at (codes "version") ms ≡ Ok tt) × (graph_kind_at (codes "kind") ms ≡ Ok h.kind) × (cut_at (codes "cut") ms ≡ Ok h.limits)
 
-head_means : (ms : Members) (h : Head) → head ms ≡ Ok h → HeadSaid ms h
-unfolding head
+head_means : (ms : Members) (h : Head) → first_keys ms ≡ Ok h → HeadSaid ms h
+unfolding first_keys
 head_means ms h e =
     let version = bind_ok (version_at (codes "version") ms) _ h e in
-    let kind = bind_ok (kind_at (codes "kind") ms) _ h version.2 in
+    let kind = bind_ok (graph_kind_at (codes "kind") ms) _ h version.2 in
     let limits = bind_ok (cut_at (codes "cut") ms) _ h kind.2 in
     subst (HeadSaid ms) (same_head (record { kind = kind.0; limits = limits.0 }) h limits.2) (version.1, kind.1, limits.1)
 
-head_reads : (ms : Members) (h : Head) → HeadSaid ms h → head ms ≡ Ok h
-unfolding head
+head_reads : (ms : Members) (h : Head) → HeadSaid ms h → first_keys ms ≡ Ok h
+unfolding first_keys
 head_reads ms h said = rw (said.0, said.1, said.2) refl
 
 -- the last keys
 
-record ActsSaid (table : Table) (items : List Item) (ms : Members) (a : Acts) : Type 0 where
+record FaultyScheduleSaid (table : Table) (items : List Item) (ms : Members) (a : FaultySchedule) : Type 0 where
   faulty : SaysFaulty table.orderers table.peers ms a.faulty
-  schedule : SaysSchedule table.orderers table.peers a.faulty (slots_of table items) ms a.schedule
+  schedule : SaysSchedule table.orderers table.peers a.faulty (pieces_of table items) ms a.schedule
   only : HasOnly root_keys ms
 
-acts_mean : (table : Table) (items : List Item) (ms : Members) (a : Acts) → acts table items ms ≡ Ok a → ActsSaid table items ms a
-unfolding acts no_others
-acts_mean table items ms a e =
+faulty_schedule_means : (table : Table) → Numbered table → (items : List Item) (ms : Members) (a : FaultySchedule) → faulty_schedule table items ms ≡ Ok a → FaultyScheduleSaid table items ms a
+unfolding faulty_schedule only_root_keys
+faulty_schedule_means table numbered items ms a e =
     let nodes = bind_ok (faulty table.orderers table.peers ms) _ a e in
-    let events = bind_ok (schedule table.orderers table.peers nodes.0 (slots_of table items) ms) _ a nodes.2 in
-    let rest = bind_ok (no_others ms) _ a events.2 in
-    subst (ActsSaid table items ms) (same_acts (record { faulty = nodes.0; schedule = events.0 }) a rest.2) (record {
-      faulty = faulty_means table.orderers table.peers ms nodes.0 nodes.1;
-      schedule = schedule_means table.orderers table.peers nodes.0 (slots_of table items) ms events.0 events.1;
+    let events = bind_ok (schedule table.orderers table.peers nodes.0 (roles_of table items) ms) _ a nodes.2 in
+    let rest = bind_ok (only_root_keys ms) _ a events.2 in
+    subst (FaultyScheduleSaid table items ms) (same_faulty_schedule (record { faulty = nodes.0; schedule = events.0 }) a rest.2) (record {
+      faulty = faulty_means table.orderers table.peers numbered.of_nodes ms nodes.0 nodes.1;
+      schedule = schedule_means table.orderers table.peers numbered.of_nodes nodes.0 (pieces_of table items) ms events.0 events.1;
       only = only_means root_keys ms rest.0 rest.1;
     })
 
-acts_read : (table : Table) (items : List Item) (ms : Members) (a : Acts) → ActsSaid table items ms a → acts table items ms ≡ Ok a
-unfolding acts no_others
-acts_read table items ms a said =
-    rw (faulty_reads table.orderers table.peers ms a.faulty said.faulty, schedule_reads table.orderers table.peers a.faulty (slots_of table items) ms a.schedule said.schedule, only_reads root_keys ms said.only) refl
+faulty_schedule_reads : (table : Table) → Numbered table → (items : List Item) (ms : Members) (a : FaultySchedule) → FaultyScheduleSaid table items ms a → faulty_schedule table items ms ≡ Ok a
+unfolding faulty_schedule only_root_keys
+faulty_schedule_reads table numbered items ms a said =
+    rw (faulty_reads table.orderers table.peers numbered.of_nodes ms a.faulty said.faulty, schedule_reads table.orderers table.peers numbered.of_nodes a.faulty (pieces_of table items) ms a.schedule said.schedule, only_reads root_keys ms said.only) refl
 
 -- the stream
 
-items_mean : (table : Table) (ms : Members) (items : List Item) → items_for table ms ≡ Ok items → SaysStream table.records (app_names table) table.peers ms items
+items_mean : (table : Table) → Numbered table → (ms : Members) (items : List Item) → items_for table ms ≡ Ok items → SaysStream table.records (app_names table.apps) table.peers ms items
 unfolding items_for
-items_mean table ms items e = stream_means table.records (app_names table) table.peers ms items e
+items_mean table numbered ms items e = stream_means table.records (app_names table.apps) table.peers numbered.of_stream ms items e
 
-items_read : (table : Table) (ms : Members) (items : List Item) → SaysStream table.records (app_names table) table.peers ms items → items_for table ms ≡ Ok items
+items_read : (table : Table) → Numbered table → (ms : Members) (items : List Item) → SaysStream table.records (app_names table.apps) table.peers ms items → items_for table ms ≡ Ok items
 unfolding items_for
-items_read table ms items said = stream_reads table.records (app_names table) table.peers ms items said
+items_read table numbered ms items said = stream_reads table.records (app_names table.apps) table.peers numbered.of_stream ms items said
 
 -- the whole
 
@@ -104,13 +112,13 @@ items_read table ms items said = stream_reads table.records (app_names table) ta
 record Steps (d : Data) (input : Input) : Type 0 where
   ms : Members
   is : d ≡ object ms
-  first : head ms ≡ Ok (record { kind = input.table.kind; limits = input.limits })
+  first : first_keys ms ≡ Ok (record { kind = input.table.kind; limits = input.limits })
   middle : tables input.table.kind ms ≡ Ok (record { table = input.table; genesis = input.genesis })
   items : items_for input.table ms ≡ Ok input.items
-  last : acts input.table input.items ms ≡ Ok (record { faulty = input.faulty; schedule = input.schedule })
+  last : faulty_schedule input.table input.items ms ≡ Ok (record { faulty = input.faulty; schedule = input.schedule })
 
-with_kind : (ms : Members) (h : Head) (k : Kind) → k ≡ h.kind → head ms ≡ Ok h → head ms ≡ Ok (record { kind = k; limits = h.limits })
-with_kind ms h k kept e = subst (λ (j : Kind). head ms ≡ head_is (record { kind = j; limits = h.limits })) (sym kept) e
+with_kind : (ms : Members) (h : Head) (k : Kind) → k ≡ h.kind → first_keys ms ≡ Ok h → first_keys ms ≡ Ok (record { kind = k; limits = h.limits })
+with_kind ms h k kept e = subst (λ (j : Kind). first_keys ms ≡ head_is (record { kind = j; limits = h.limits })) (sym kept) e
 
 at_kind : (k : Kind) (ms : Members) (t : Tables) → t.table.kind ≡ k → tables k ms ≡ Ok t → tables t.table.kind ms ≡ Ok t
 at_kind k ms t kept e = subst (λ (j : Kind). tables j ms ≡ tables_are t) (sym kept) e
@@ -119,10 +127,10 @@ steps_of : (d : Data) (input : Input) → document d ≡ Ok input → Steps d in
 unfolding document
 steps_of d input e =
     let ms = bind_ok (form.object (Some d)) _ input e in
-    let h = bind_ok (head ms.0) _ input ms.2 in
+    let h = bind_ok (first_keys ms.0) _ input ms.2 in
     let t = bind_ok (tables h.0.kind ms.0) _ input h.2 in
     let xs = bind_ok (items_for t.0.table ms.0) _ input t.2 in
-    let a = bind_ok (acts t.0.table xs.0 ms.0) _ input xs.2 in
+    let a = bind_ok (faulty_schedule t.0.table xs.0 ms.0) _ input xs.2 in
     let kept = (tables_mean h.0.kind ms.0 t.0 t.1).kept in
     subst (Steps d) (same_input (record { table = t.0.table; genesis = t.0.genesis; items = xs.0; limits = h.0.limits; faulty = a.0.faulty; schedule = a.0.schedule }) input a.2) (record {
       ms = ms.0;
@@ -140,8 +148,9 @@ document_means : (d : Data) (input : Input) → document d ≡ Ok input → Says
 document_means d input e =
     let steps = steps_of d input e in
     let first = head_means steps.ms (record { kind = input.table.kind; limits = input.limits }) steps.first in
+    let numbered = table_is_numbered input.table.kind steps.ms (record { table = input.table; genesis = input.genesis }) steps.middle in
     let parts = tables_mean input.table.kind steps.ms (record { table = input.table; genesis = input.genesis }) steps.middle in
-    let last = acts_mean input.table input.items steps.ms (record { faulty = input.faulty; schedule = input.schedule }) steps.last in
+    let last = faulty_schedule_means input.table numbered input.items steps.ms (record { faulty = input.faulty; schedule = input.schedule }) steps.last in
     record {
       members = steps.ms;
       is = steps.is;
@@ -153,7 +162,7 @@ document_means d input e =
       quorum = parts.quorum;
       peers = parts.peers;
       apps = parts.apps;
-      stream = items_mean input.table steps.ms input.items steps.items;
+      stream = items_mean input.table numbered steps.ms input.items steps.items;
       faulty = last.faulty;
       schedule = last.schedule;
       only = last.only;
@@ -162,12 +171,15 @@ document_means d input e =
 document_reads : (d : Data) (input : Input) → SaysDocument d input → document d ≡ Ok input
 unfolding document
 document_reads d input said =
+    let t : Tables = record { table = input.table; genesis = input.genesis } in
+    let middle = tables_read said.members t said.records said.orderers said.quorum said.peers said.apps in
+    let numbered = table_is_numbered input.table.kind said.members t middle in
     rw (
       said.is,
       head_reads said.members (record { kind = input.table.kind; limits = input.limits }) (version_reads said.members said.version, kind_reads said.members input.table.kind said.kind, cut_reads said.members input.limits said.cut),
-      tables_read said.members (record { table = input.table; genesis = input.genesis }) said.records said.orderers said.quorum said.peers said.apps,
-      items_read input.table said.members input.items said.stream,
-      acts_read input.table input.items said.members (record { faulty = input.faulty; schedule = input.schedule }) (record { faulty = said.faulty; schedule = said.schedule; only = said.only }),
+      middle,
+      items_read input.table numbered said.members input.items said.stream,
+      faulty_schedule_reads input.table numbered input.items said.members (record { faulty = input.faulty; schedule = input.schedule }) (record { faulty = said.faulty; schedule = said.schedule; only = said.only }),
     ) refl
 
 from_tree : (bytes : List ℕ) (o : Option Data) (input : Input) → tree_of bytes ≡ o → read_tree o ≡ Ok input → Means bytes input
@@ -194,7 +206,7 @@ document_is_lawful d input e =
     let steps = steps_of d input e in
     let t : Tables = record { table = input.table; genesis = input.genesis } in
     let fits = genesis_fits input.table.kind steps.ms t steps.middle in
-    let xs = items_are_lawful input.table steps.ms input.items steps.items in
+    let xs = items_are_lawful input.table.kind steps.ms t input.items steps.middle steps.items in
     let said = document_means d input e in
     record {
       table = table_is_lawful input.table.kind steps.ms t steps.middle;
@@ -203,6 +215,12 @@ document_is_lawful d input e =
       count = xs.1;
       items = xs.0;
       limits = cut_is_lawful _ input.limits said.cut;
+      txns = few_txns input.table input.items said.stream.requests;
+      configs = few_configs input.table input.items said.stream.configs;
+      faulty = faulty_are_nodes input.table said.members input.faulty said.faulty;
+      faulty_count = faulty_are_few input.table said.members input.faulty said.faulty;
+      faulty_order = said.faulty.rising;
+      schedule = λ genesis bodies. schedule_lawful (setting_of input.table genesis input.items bodies input.faulty) said.members input.schedule said.schedule;
     }
 
 lawful_tree : (o : Option Data) (input : Input) → read_tree o ≡ Ok input → IsLawfulInput input

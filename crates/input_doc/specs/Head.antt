@@ -24,17 +24,17 @@ version v = do
 unfoldable pub version_at : List ℕ → Members → Result ⊤ Fault
 version_at k ms = at k ms version
 
-unfoldable pub kind_of : List ℕ → Option Kind
-kind_of text = if bytes_eq text (codes "full") then Some Full else (if bytes_eq text (codes "raw") then Some Raw else None)
+unfoldable pub kind_named : List ℕ → Option Kind
+kind_named text = if bytes_eq text (codes "full") then Some Full else (if bytes_eq text (codes "raw") then Some Raw else None)
 
 -- the word of a kind
 unfoldable pub kind : Option Data → Result Kind Fault
 kind v = do
   text ← wanted (option_and_then as_str v)
-  wanted (kind_of text)
+  wanted (kind_named text)
 
-unfoldable pub kind_at : List ℕ → Members → Result Kind Fault
-kind_at k ms = at k ms kind
+unfoldable pub graph_kind_at : List ℕ → Members → Result Kind Fault
+graph_kind_at k ms = at k ms kind
 
 -- a block's greatest count of transactions, and of their bytes together
 unfoldable pub cut : Option Data → Result CutLimits Fault
@@ -50,9 +50,9 @@ cut_at k ms = at k ms cut
 
 -- WHAT THEY SAY
 
-abbrev pub kind_word : Kind → List ℕ
-kind_word Full = codes "full"
-kind_word Raw = codes "raw"
+abbrev pub graph_kind_word : Kind → List ℕ
+graph_kind_word Full = codes "full"
+graph_kind_word Raw = codes "raw"
 
 -- an object with the two limits
 pub record SaysCut (v : Option Data) (limits : CutLimits) : Type 0 where

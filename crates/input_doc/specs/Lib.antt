@@ -2,6 +2,7 @@ pub use Rattle.oxii_defs.specs.Table
 pub use Rattle.oxii_defs.specs.Lawful
 pub use Rattle.node_defs.specs.Admission
 pub use Rattle.node_defs.specs.Cutting
+pub use Rattle.node_defs.specs.World
 pub use Rattle.txn_core.specs.MeantTable
 pub use Rattle.doc_forms.specs.Faults
 pub use Rattle.doc_forms.specs.Check

@@ -4,14 +4,13 @@ ghost use Rattle.std.specs.Prelude.{◌≡◌};
 ghost use Rattle.serde_json.specs.View.{members_view};
 ghost use Rattle.doc_forms.specs.Check.{Gives};
 ghost use Rattle.doc_forms.specs.Forms.{seen};
-ghost use Rattle.input_doc.specs.Head.{version, version_at, kind_of, kind, kind_at, cut, cut_at};
-ghost use Rattle.input_doc.specs.Reading.{head};
-ghost use Rattle.input_doc.specs.Held.{head_of};
+ghost use Rattle.input_doc.specs.Head.{version, version_at, kind_named, kind, graph_kind_at, cut, cut_at};
+ghost use Rattle.input_doc.specs.Reading.{first_keys};
 
 use doc_forms::{DocFault, Which, at, field_fault, member, number_at, object, only};
 use serde_json::{Map, Value};
 use std::alloc::Global;
-use txn_core::{CutLimits, Kind};
+use txn_types::{CutLimits, Kind};
 
 #[tactic(auto, unfolding(crate::specs::Head::version))]
 fn version(alloc: Global, value: Option<&Value>) -> Result<(), DocFault>
@@ -36,9 +35,9 @@ fn version_at(alloc: Global, members: &Map<String, Value>, key: &str) -> Result<
     at(alloc, key, version(alloc, member(members, key)))
 }
 
-#[tactic(auto, unfolding(crate::specs::Head::kind_of))]
-fn kind_of(text: &str) -> Option<Kind>
-    ensures { result ≡ kind_of text.now }
+#[tactic(auto, unfolding(crate::specs::Head::kind_named))]
+fn kind_named(text: &str) -> Option<Kind>
+    ensures { result ≡ kind_named text.now }
 {
     if text == "full" {
         Some(Kind::Full)
@@ -59,14 +58,14 @@ fn kind(alloc: Global, value: Option<&Value>) -> Result<Kind, DocFault>
     let Some(text) = value.as_str() else {
         return Err(field_fault(alloc));
     };
-    match kind_of(text) {
+    match kind_named(text) {
         Some(kind) => Ok(kind),
         None => Err(field_fault(alloc)),
     }
 }
 
-fn kind_at(alloc: Global, members: &Map<String, Value>, key: &str) -> Result<Kind, DocFault>
-    ensures { Gives (λ k. k) result (kind_at key.now (members_view members.now.entries)) }
+fn graph_kind_at(alloc: Global, members: &Map<String, Value>, key: &str) -> Result<Kind, DocFault>
+    ensures { Gives (λ k. k) result (graph_kind_at key.now (members_view members.now.entries)) }
 {
     at(alloc, key, kind(alloc, member(members, key)))
 }
@@ -99,12 +98,12 @@ pub struct Head {
 }
 
 /// The first three keys of a document.
-#[tactic(auto, unfolding(crate::specs::Reading::head))]
+#[tactic(auto, unfolding(crate::specs::Reading::first_keys))]
 pub fn read_head(alloc: Global, members: &Map<String, Value>) -> Result<Head, DocFault>
-    ensures { Gives head_of result (head (members_view members.now.entries)) }
+    ensures { Gives (λ h. h) result (first_keys (members_view members.now.entries)) }
 {
     version_at(alloc, members, "version")?;
-    let kind = kind_at(alloc, members, "kind")?;
+    let kind = graph_kind_at(alloc, members, "kind")?;
     let limits = cut_at(alloc, members, "cut")?;
     Ok(Head { kind, limits })
 }

@@ -1,12 +1,12 @@
 //! From the bytes of a document to what it means, or its first fault.
 #![tactic(auto)]
 
-mod acts;
 mod head;
-mod parts;
+mod input;
 mod reader;
+mod stream_and_schedule;
 mod tables;
 
 pub use doc_forms::{DocFault, Path, Step, Which};
-pub use parts::Input;
+pub use input::Input;
 pub use reader::read_input;

@@ -9,9 +9,9 @@ ghost use Rattle.input_doc.specs.Held.{input_of};
 ghost use Rattle.input_doc.specs.Reading.{document, reading};
 ghost use Rattle.input_doc.specs.Means.{Means, IsFaultOf, ExactlyOne, GivesTree};
 
-use crate::acts::{read_acts, read_items};
 use crate::head::read_head;
-use crate::parts::Input;
+use crate::input::Input;
+use crate::stream_and_schedule::{read_faulty_schedule, read_items};
 use crate::tables::read_tables;
 use doc_forms::{DocFault, object};
 use serde_json::Value;
@@ -33,7 +33,7 @@ fn tree(alloc: Global, bytes: &[u8]) -> Result<Value, DocFault>
     }
 }
 
-#[tactic(auto, using(crate::proofs::TablesLawful::table_is_lawful, crate::proofs::TablesLawful::items_are_lawful), unfolding(crate::specs::Reading::document))]
+#[tactic(auto, unfolding(crate::specs::Reading::document))]
 fn read_document(alloc: Global, root: &Value) -> Result<Input, DocFault>
     ensures { Gives input_of result (document (view root.now)) }
 {
@@ -42,14 +42,14 @@ fn read_document(alloc: Global, root: &Value) -> Result<Input, DocFault>
     let tables = read_tables(alloc, head.kind, members)?;
     let items = read_items(alloc, &tables, members)?;
     let (table, genesis) = tables.into_table(alloc)?;
-    let acts = read_acts(alloc, &table, items.as_slice(), members)?;
+    let faulty_schedule = read_faulty_schedule(alloc, &table, items.as_slice(), members)?;
     Ok(Input {
         table,
         genesis,
         items,
         limits: head.limits,
-        faulty: acts.faulty,
-        schedule: acts.schedule,
+        faulty: faulty_schedule.faulty,
+        schedule: faulty_schedule.schedule,
     })
 }
 

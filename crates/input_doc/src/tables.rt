@@ -7,13 +7,14 @@ ghost use Rattle.doc_forms.specs.Check.{Gives};
 ghost use Rattle.doc_forms.specs.Forms.{list_at};
 ghost use Rattle.doc_forms.specs.Tables.{new_name};
 ghost use Rattle.input_doc.specs.Reading.{nodes, tables};
-ghost use Rattle.input_doc.specs.Held.{nodes_of, tables_of};
+ghost use Rattle.input_doc.specs.Held.{tables_of};
 
 use doc_forms::{DocFault, NewName, Which, list_at, number_at};
 use doc_tables::{Records, read_apps, read_records};
 use serde_json::{Map, Value};
 use std::alloc::Global;
-use txn_core::{Apps, Kind, Names, OutOfMemory, Table, Values};
+use txn_core::{Apps, Table};
+use txn_types::{Kind, Names, OutOfMemory, Values};
 
 /// The orderers and the peers, and how many NEWBLOCKs of the former make a quorum.
 #[derive(Drop)]
@@ -74,7 +75,7 @@ fn names_at(
 
 #[tactic(auto, using(crate::proofs::Sizes::quorum_fits), unfolding(crate::specs::Reading::nodes))]
 fn read_nodes(alloc: Global, members: &Map<String, Value>) -> Result<DocNodes, DocFault>
-    ensures { Gives nodes_of result (nodes (members_view members.now.entries)) }
+    ensures { Gives (λ n. n) result (nodes (members_view members.now.entries)) }
 {
     let orderers = names_at(
         alloc,

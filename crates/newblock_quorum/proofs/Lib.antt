@@ -1,4 +1,4 @@
-mod SameLemmas
-mod EntryLemmas
+mod GraphLists
 mod NewblockLemmas
 mod Contents
+mod Held

@@ -16,13 +16,13 @@ use Rattle.node_defs.specs.Rules.{Rules}
 use Rattle.node_defs.specs.Log.{Log, newblock_from, newblock_in, first_newblocks}
 use Rattle.txn_core.specs.Graphs.{Shape}
 use Rattle.counting_laws.proofs.Firsts.{firsts_more, list_any-contents, cons_option-if}
-use Rattle.newblock_quorum.specs.declared.entry.Entry.{Entry}
-use Rattle.newblock_quorum.specs.declared.entry.Put.TheVariants.{WrongGraph, Repeat, Counted}
-use Rattle.newblock_quorum.specs.Entries.{Kept, kept_for, is_numbered, has_sent, answer_at, kept_with}
-use Rattle.newblock_quorum.specs.Newblocks.{StandsFor, letter_of, orderer_of, answer_to, CommitsLeaveIt}
-use Rattle.newblock_quorum.proofs.SameLemmas.{same_lists}
+use Rattle.newblock_quorum.specs.declared.entry.Received.{Received}
+use Rattle.newblock_quorum.specs.declared.entry.NewBlockPut.TheVariants.{WrongGraph, Repeat, Counted}
+use Rattle.newblock_quorum.specs.Entries.{KeptNewBlocks, is_numbered, has_sent, answer_in_inbox, inbox_with}
+use Rattle.newblock_quorum.specs.Newblocks.{InboxStandsFor, letter_of, orderer_of, answer_to_newblock, CommitsLeaveIt}
+use Rattle.newblock_quorum.proofs.GraphLists.{same_lists}
 
-abbrev pair_of : Entry → ℕ × Block
+abbrev pair_of : Received → ℕ × Block
 pair_of e = (e.orderer, e.block)
 
 bad_is : (a c : Bool) → c ≡ false → (a && c) ≡ false
@@ -40,26 +40,26 @@ from_orderer rules (Orderer p) o n m is good e =
     ∙ ap (λ q. cond ((m.block.number == n) && good) (Some (q, m.block)) None) who.1)
 
 -- an orderer has sent for a number where the log has its good NEWBLOCK
-sent_is : (inbox : Kept) (rules : Rules) (L : Log) (o n : ℕ) → StandsFor inbox rules L → has_sent inbox.entries o n ≡ list_any (λ x. x.0 == o) (first_newblocks rules n L)
+sent_is : (inbox : KeptNewBlocks) (rules : Rules) (L : Log) (o n : ℕ) → InboxStandsFor inbox rules L → has_sent inbox.entries o n ≡ list_any (λ x. x.0 == o) (first_newblocks rules n L)
 sent_is inbox rules L o n s = sym (list_any-contents pair_of (is_numbered n) o inbox.entries) ∙ ap (list_any (λ (x : ℕ × Block). x.0 == o)) (s.counted n)
 
 -- the answer to a good NEWBLOCK is the one that the log tells
-pub counted_is : (inbox : Kept) (rules : Rules) (L : Log) (from : Node) (o : ℕ) (m : NewBlock) → StandsFor inbox rules L → orderer_of inbox.orderers from ≡ Some o → same_lists m.preds (graph_of inbox.kind m.block.txns) ≡ true → answer_at o m.block.number inbox.entries ≡ answer_to rules L (orderer_of (length rules.table.orderers) from) m
+pub counted_is : (inbox : KeptNewBlocks) (rules : Rules) (L : Log) (from : Node) (o : ℕ) (m : NewBlock) → InboxStandsFor inbox rules L → orderer_of inbox.orderers from ≡ Some o → same_lists m.preds (graph_of inbox.kind m.block.txns) ≡ true → answer_in_inbox o m.block.number inbox.entries ≡ answer_to_newblock rules L (orderer_of (length rules.table.orderers) from) m
 counted_is inbox rules L from o m s is good =
     let some = ap (λ k. orderer_of k from) (sym s.orderers_are) ∙ is in
     let right = ap (λ k. same_lists m.preds (graph_of k m.block.txns)) (sym s.kind_is) ∙ good in
     ap (λ b. if b then Repeat else Counted) (sent_is inbox rules L o m.block.number s)
-    ∙ sym (ap (λ v. answer_to rules L v m) some ∙ cond-true (same_lists m.preds (graph_of rules.table.kind m.block.txns)) _ WrongGraph right)
+    ∙ sym (ap (λ v. answer_to_newblock rules L v m) some ∙ cond-true (same_lists m.preds (graph_of rules.table.kind m.block.txns)) _ WrongGraph right)
 
 -- the answer to a wrong graph
-pub wrong_is : (inbox : Kept) (rules : Rules) (L : Log) (from : Node) (o : ℕ) (m : NewBlock) → StandsFor inbox rules L → orderer_of inbox.orderers from ≡ Some o → same_lists m.preds (graph_of inbox.kind m.block.txns) ≡ false → WrongGraph ≡ answer_to rules L (orderer_of (length rules.table.orderers) from) m
+pub wrong_is : (inbox : KeptNewBlocks) (rules : Rules) (L : Log) (from : Node) (o : ℕ) (m : NewBlock) → InboxStandsFor inbox rules L → orderer_of inbox.orderers from ≡ Some o → same_lists m.preds (graph_of inbox.kind m.block.txns) ≡ false → WrongGraph ≡ answer_to_newblock rules L (orderer_of (length rules.table.orderers) from) m
 wrong_is inbox rules L from o m s is bad =
     let some = ap (λ k. orderer_of k from) (sym s.orderers_are) ∙ is in
     let wrong = ap (λ k. same_lists m.preds (graph_of k m.block.txns)) (sym s.kind_is) ∙ bad in
-    sym (ap (λ v. answer_to rules L v m) some ∙ cond-false (same_lists m.preds (graph_of rules.table.kind m.block.txns)) _ WrongGraph wrong)
+    sym (ap (λ v. answer_to_newblock rules L v m) some ∙ cond-false (same_lists m.preds (graph_of rules.table.kind m.block.txns)) _ WrongGraph wrong)
 
 -- a wrong graph leaves it
-pub stands_wrong : (inbox : Kept) (rules : Rules) (L : Log) (from : Node) (o : ℕ) (m : NewBlock) → StandsFor inbox rules L → orderer_of inbox.orderers from ≡ Some o → same_lists m.preds (graph_of inbox.kind m.block.txns) ≡ false → StandsFor inbox rules (letter_of from m ∷ L)
+pub stands_wrong : (inbox : KeptNewBlocks) (rules : Rules) (L : Log) (from : Node) (o : ℕ) (m : NewBlock) → InboxStandsFor inbox rules L → orderer_of inbox.orderers from ≡ Some o → same_lists m.preds (graph_of inbox.kind m.block.txns) ≡ false → InboxStandsFor inbox rules (letter_of from m ∷ L)
 stands_wrong inbox rules L from o m s is bad =
     let some = ap (λ k. orderer_of k from) (sym s.orderers_are) ∙ is in
     let wrong = ap (λ k. same_lists m.preds (graph_of k m.block.txns)) (sym s.kind_is) ∙ bad in
@@ -73,50 +73,30 @@ stands_wrong inbox rules L from o m s is bad =
           s.counted n ∙ sym (ap (λ w. first_of_each (cons_option w xs)) (from_orderer rules from o n m some false wrong ∙ none));
     }
 
-abbrev entry_of : ℕ → Block → Shape → Entry
-entry_of o block graph = record { orderer = o; block = block; graph = graph }
-
-abbrev kept_or : Bool → Kept → Entry → Kept
-kept_or b inbox e = cond b inbox (record { orderers = inbox.orderers; quorum = inbox.quorum; kind = inbox.kind; entries = e ∷ inbox.entries })
-
-orderers_stay : (b : Bool) (inbox : Kept) (e : Entry) → (kept_or b inbox e).orderers ≡ inbox.orderers
-orderers_stay true inbox e = refl
-orderers_stay false inbox e = refl
-
-quorum_stays : (b : Bool) (inbox : Kept) (e : Entry) → (kept_or b inbox e).quorum ≡ inbox.quorum
-quorum_stays true inbox e = refl
-quorum_stays false inbox e = refl
-
-kind_stays : (b : Bool) (inbox : Kept) (e : Entry) → (kept_or b inbox e).kind ≡ inbox.kind
-kind_stays true inbox e = refl
-kind_stays false inbox e = refl
-
-entries_are : (b : Bool) (inbox : Kept) (e : Entry) → (kept_or b inbox e).entries ≡ cond b inbox.entries (e ∷ inbox.entries)
-entries_are true inbox e = refl
-entries_are false inbox e = refl
+abbrev received_of : ℕ → Block → Shape → Received
+received_of o block graph = record { orderer = o; block = block; graph = graph }
 
 yes_is : (b : Bool) → (b && true) ≡ b
 yes_is true = refl
 yes_is false = refl
 
 -- a good NEWBLOCK counts, unless its orderer has sent for this number
-pub stands_good : (inbox : Kept) (rules : Rules) (L : Log) (from : Node) (o : ℕ) (m : NewBlock) (graph : Shape) → StandsFor inbox rules L → orderer_of inbox.orderers from ≡ Some o → same_lists m.preds (graph_of inbox.kind m.block.txns) ≡ true → StandsFor (kept_with inbox o m.block graph) rules (letter_of from m ∷ L)
+pub stands_good : (inbox : KeptNewBlocks) (rules : Rules) (L : Log) (from : Node) (o : ℕ) (m : NewBlock) (graph : Shape) → InboxStandsFor inbox rules L → orderer_of inbox.orderers from ≡ Some o → same_lists m.preds (graph_of inbox.kind m.block.txns) ≡ true → InboxStandsFor (inbox_with inbox o m.block graph) rules (letter_of from m ∷ L)
 stands_good inbox rules L from o m graph s is good =
     let some = ap (λ k. orderer_of k from) (sym s.orderers_are) ∙ is in
     let right = ap (λ k. same_lists m.preds (graph_of k m.block.txns)) (sym s.kind_is) ∙ good in
-    let e = entry_of o m.block graph in
+    let e = received_of o m.block graph in
     let b = has_sent inbox.entries o m.block.number in
     record {
-      orderers_are = orderers_stay b inbox e ∙ s.orderers_are;
-      quorum_is = quorum_stays b inbox e ∙ s.quorum_is;
-      kind_is = kind_stays b inbox e ∙ s.kind_is;
+      orderers_are = s.orderers_are;
+      quorum_is = s.quorum_is;
+      kind_is = s.kind_is;
       counted = λ n.
           let xs = filter_map (newblock_in rules n) L in
           let here = m.block.number == n in
           let more = from_orderer rules from o n m some true right ∙ ap (λ h. cond h (Some (o, m.block)) None) (yes_is here) in
-          ap (kept_for n) (entries_are b inbox e)
-          ∙ (firsts_more pair_of (is_numbered n) e inbox.entries xs b (s.counted n) (λ h. ap (has_sent inbox.entries o) (sym (eqb-true m.block.number n h)))
-          ∙ sym (ap first_of_each (ap (λ w. cons_option w xs) more ∙ cons_option-if here (o, m.block) xs)));
+          firsts_more pair_of (is_numbered n) e inbox.entries xs b (s.counted n) (λ h. ap (has_sent inbox.entries o) (sym (eqb-true m.block.number n h)))
+          ∙ sym (ap first_of_each (ap (λ w. cons_option w xs) more ∙ cons_option-if here (o, m.block) xs));
     }
 
 commit_adds : (rules : Rules) (n : ℕ) (from : Node) (c : Commit) → newblock_from rules n from (message.Commit c) ≡ None

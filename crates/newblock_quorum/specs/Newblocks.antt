@@ -10,10 +10,10 @@ use Rattle.oxii_defs.specs.Dependency.{graph_of}
 use Rattle.node_defs.specs.Same.{same_list, same_number}
 use Rattle.node_defs.specs.Rules.{Rules}
 use Rattle.node_defs.specs.Log.{Letter, Log, first_newblocks}
-use Rattle.newblock_quorum.specs.declared.entry.Put.{Put}
-use Rattle.newblock_quorum.specs.declared.entry.Put.TheVariants.{Stranger, WrongGraph}
-use Rattle.newblock_quorum.specs.declared.entry.Put.TheVariants as answer
-use Rattle.newblock_quorum.specs.Entries.{Kept, kept_for}
+use Rattle.newblock_quorum.specs.declared.entry.NewBlockPut.{NewBlockPut}
+use Rattle.newblock_quorum.specs.declared.entry.NewBlockPut.TheVariants.{Stranger, WrongGraph}
+use Rattle.newblock_quorum.specs.declared.entry.NewBlockPut.TheVariants as answer
+use Rattle.newblock_quorum.specs.Entries.{KeptNewBlocks, kept_for}
 
 -- a NEWBLOCK with its sender
 abbrev pub letter_of : Node → NewBlock → Letter
@@ -26,15 +26,15 @@ orderer_of orderers (Orderer o) = if nat_lt o orderers then Some o else None
 
 -- the answer to an orderer, or to a stranger: the lists are not the block's graph,
 -- the orderer's first NEWBLOCK for this number has come before, or it is counted
-abbrev pub answer_to : Rules → Log → Option ℕ → NewBlock → Put
-answer_to rules L None m = Stranger
-answer_to rules L (Some o) m =
+abbrev pub answer_to_newblock : Rules → Log → Option ℕ → NewBlock → NewBlockPut
+answer_to_newblock rules L None m = Stranger
+answer_to_newblock rules L (Some o) m =
     if same_list (same_list same_number) m.preds (graph_of rules.table.kind m.block.txns)
     then (if list_any (λ x. x.0 == o) (first_newblocks rules m.block.number L) then answer.Repeat else answer.Counted)
     else WrongGraph
 
 -- an inbox stands for a log: it has the rules' table, and for each number the first good NEWBLOCK of each orderer
-pub record StandsFor (inbox : Kept) (rules : Rules) (L : Log) : Type 0 where
+pub record InboxStandsFor (inbox : KeptNewBlocks) (rules : Rules) (L : Log) : Type 0 where
   pub orderers_are : inbox.orderers ≡ length rules.table.orderers
   pub quorum_is : inbox.quorum ≡ rules.table.quorum
   pub kind_is : inbox.kind ≡ rules.table.kind
@@ -43,5 +43,5 @@ pub record StandsFor (inbox : Kept) (rules : Rules) (L : Log) : Type 0 where
 -- a COMMIT carries no NEWBLOCK: what stands for a log stands for it with a COMMIT as its latest entry
 abbrev pub CommitsLeaveIt : Type 0
 CommitsLeaveIt =
-    (inbox : Kept) (rules : Rules) (L : Log) (from : Node) (c : Commit) →
-    StandsFor inbox rules L → StandsFor inbox rules (record { from = from; message = message.Commit c } ∷ L)
+    (inbox : KeptNewBlocks) (rules : Rules) (L : Log) (from : Node) (c : Commit) →
+    InboxStandsFor inbox rules L → InboxStandsFor inbox rules (record { from = from; message = message.Commit c } ∷ L)

@@ -1,8 +1,9 @@
-use txn_core::{Block, Graph};
+use txn_core::Graph;
+use txn_types::Block;
 
 /// What becomes of a NEWBLOCK that is put into an inbox.
 #[derive(Clone, Copy, Debug, PartialEq, Eq)]
-pub enum Put {
+pub enum NewBlockPut {
     /// The sender is no orderer of the table.
     Stranger,
     /// The lists are not the graph of the block.
@@ -14,7 +15,7 @@ pub enum Put {
 
 /// A counted NEWBLOCK.
 #[derive(Drop)]
-pub struct Entry {
+pub struct Received {
     pub orderer: u8,
     pub block: Block,
     pub graph: Graph,

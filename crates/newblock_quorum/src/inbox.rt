@@ -1,17 +1,19 @@
-ghost use Rattle.std.specs.Prelude.{◌≡◌, ◌≤◌, [], ◌∷◌, length, OnOk, OnErr, IfOk, IfSome};
+ghost use Rattle.std.specs.Prelude.{◌≡◌, ◌≤◌, [], ◌∷◌, length, Contains, OnOk, OnErr, IfOk, IfSome};
 ghost use Rattle.std.specs.Option.{option_map};
 ghost use Rattle.node_defs.specs.Accepted.{accepted};
 ghost use Rattle.node_defs.specs.Log.{Log};
 ghost use Rattle.node_defs.specs.Rules.{Rules};
 ghost use Rattle.txn_core.specs.Graphs.{IsGraphOf};
-ghost use Rattle.newblock_quorum.specs.Entries.{HasGraph, answer_at, has_sent, kept_with};
-ghost use Rattle.newblock_quorum.specs.Newblocks.{StandsFor, answer_to, letter_of, orderer_of};
+ghost use Rattle.newblock_quorum.specs.Entries.{HasGraph, KeepsWith, answer_in_inbox, blocks_of, has_sent, inbox_with};
+ghost use Rattle.newblock_quorum.specs.Newblocks.{InboxStandsFor, answer_to_newblock, letter_of, orderer_of};
 
-use crate::entry::{Entry, Put};
-use crate::first::first_ready;
+use crate::entry::{NewBlockPut, Received};
+use crate::linked::LinkedBlocks;
+use counting_laws::first_to_reach;
 use std::alloc::Global;
 use std::marker::Model;
-use txn_core::{Block, Graph, GrowingList, Kind, NewBlock, Node, OutOfMemory};
+use txn_core::Graph;
+use txn_types::{Block, GrowingList, Kind, NewBlock, Node, OutOfMemory};
 
 /// NEWBLOCKs of the orderers of a table. Of each orderer the first good one for each number counts, in the order of the puts.
 #[derive(Drop)]
@@ -19,15 +21,15 @@ pub struct Inbox {
     orderers: u8,
     quorum: u8,
     kind: Kind,
-    entries: GrowingList<Entry>,
+    entries: GrowingList<Received>,
 }
 
 impl Model for Inbox {
     ghost use Rattle.std.specs.Prelude.{reverse};
     ghost use Rattle.std.specs.List.{All};
-    ghost use Rattle.newblock_quorum.specs.Entries.{HasGraph, Kept};
+    ghost use Rattle.newblock_quorum.specs.Entries.{HasGraph, KeptNewBlocks};
 
-    ghost Value = { Kept };
+    ghost Value = { KeptNewBlocks };
 
     ghost view = { λ inbox. record { orderers = inbox.orderers; quorum = inbox.quorum; kind = inbox.kind; entries = reverse inbox.entries } };
 
@@ -41,7 +43,7 @@ pub struct Ready<'a> {
     pub graph: &'a Graph,
 }
 
-fn has_entry(entries: &[Entry], orderer: u8, n: u64) -> bool
+fn has_entry(entries: &[Received], orderer: u8, n: u64) -> bool
     ensures { result ≡ has_sent entries.now orderer n }
 {
     entries
@@ -54,9 +56,11 @@ impl Inbox {
     pub fn new(alloc: Global, orderers: u8, quorum: u8, kind: Kind) -> Result<Inbox, OutOfMemory>
         requires some { 1 ≤ quorum }
         requires enough { quorum ≤ orderers }
-        ensures { (rules : Rules) → length rules.table.orderers ≡ orderers →
+        ensures stands { (rules : Rules) → length rules.table.orderers ≡ orderers →
             rules.table.quorum ≡ quorum → rules.table.kind ≡ kind →
-            IfOk result (λ inbox. StandsFor inbox rules []) }
+            IfOk result (λ inbox. InboxStandsFor inbox rules []) }
+        ensures kind { IfOk result (λ inbox. inbox.kind ≡ kind) }
+        ensures none { IfOk result (λ inbox. inbox.entries ≡ []) }
     {
         Ok(Inbox {
             orderers,
@@ -67,20 +71,27 @@ impl Inbox {
     }
 
     /// Takes a NEWBLOCK. Only one that is counted changes what the inbox answers.
-    pub fn put(&mut self, _alloc: Global, from: Node, msg: NewBlock) -> Result<Put, OutOfMemory>
+    pub fn put(
+        &mut self,
+        _alloc: Global,
+        from: Node,
+        msg: NewBlock,
+    ) -> Result<NewBlockPut, OutOfMemory>
         requires { length msg.block.txns ≤ 256 }
-        ensures answer { (rules : Rules) (L : Log) → StandsFor self.old rules L →
-            IfOk result (λ put. put ≡ answer_to rules L (orderer_of (length rules.table.orderers) from) msg) }
-        ensures stands { (rules : Rules) (L : Log) → StandsFor self.old rules L →
-            OnOk result (StandsFor self.new rules (letter_of from msg ∷ L)) }
+        ensures answer { (rules : Rules) (L : Log) → InboxStandsFor self.old rules L →
+            IfOk result (λ put. put ≡ answer_to_newblock rules L (orderer_of (length rules.table.orderers) from) msg) }
+        ensures stands { (rules : Rules) (L : Log) → InboxStandsFor self.old rules L →
+            OnOk result (InboxStandsFor self.new rules (letter_of from msg ∷ L)) }
+        // What it keeps without a log: the block of the NEWBLOCK at most comes to those that were kept.
+        ensures keeps { OnOk result (KeepsWith self.old msg.block self.new) }
         ensures err { OnErr result (self.new ≡ self.old) }
     {
         let Some(orderer) = self.orderer(from) else {
-            return Ok(Put::Stranger);
+            return Ok(NewBlockPut::Stranger);
         };
         let NewBlock { block, preds } = msg;
         let Some(graph) = Graph::checked(&block, self.kind, preds) else {
-            return Ok(Put::WrongGraph);
+            return Ok(NewBlockPut::WrongGraph);
         };
         let put = self.count(orderer, block, graph)?;
         Ok(put)
@@ -88,12 +99,16 @@ impl Inbox {
 
     /// The content with this number and previous hash that was the first to reach the quorum, and its graph.
     pub fn ready<'a>(&'a self, n: u64, prev: &[u8; 32]) -> Option<Ready<'a>>
-        ensures block { (rules : Rules) (L : Log) → StandsFor self.now rules L →
+        ensures block { (rules : Rules) (L : Log) → InboxStandsFor self.now rules L →
             option_map (λ r. r.block.now) result ≡ accepted rules n prev.now L }
         ensures graph { IfSome result (λ r. IsGraphOf r.block.now.txns r.graph.now) }
         ensures kind { IfSome result (λ r. r.graph.now.kind ≡ self.now.kind) }
+        ensures number { IfSome result (λ r. r.block.now.number ≡ n) }
+        ensures linked { IfSome result (λ r. r.block.now.prev ≡ prev.now) }
+        ensures held { IfSome result (λ r. Contains (blocks_of self.now.entries) r.block.now) }
     {
-        let entry = first_ready(self.quorum, n, prev, self.entries.as_slice())?;
+        let sought = LinkedBlocks { n, prev };
+        let entry = first_to_reach(&sought, self.quorum, self.entries.as_slice())?;
         Some(Ready {
             block: &entry.block,
             graph: &entry.graph,
@@ -110,20 +125,20 @@ impl Inbox {
         }
     }
 
-    fn count(&mut self, orderer: u8, block: Block, graph: Graph) -> Result<Put, OutOfMemory>
+    fn count(&mut self, orderer: u8, block: Block, graph: Graph) -> Result<NewBlockPut, OutOfMemory>
         requires { HasGraph self.old.kind (record { orderer = orderer; block = block; graph = graph }) }
-        ensures answer { IfOk result (λ put. put ≡ answer_at orderer block.number self.old.entries) }
-        ensures kept { OnOk result (self.new ≡ kept_with self.old orderer block graph) }
+        ensures answer { IfOk result (λ put. put ≡ answer_in_inbox orderer block.number self.old.entries) }
+        ensures kept { OnOk result (self.new ≡ inbox_with self.old orderer block graph) }
         ensures err { OnErr result (self.new ≡ self.old) }
     {
         if has_entry(self.entries.as_slice(), orderer, block.number) {
-            return Ok(Put::Repeat);
+            return Ok(NewBlockPut::Repeat);
         }
-        self.entries.push(Entry {
+        self.entries.push(Received {
             orderer,
             block,
             graph,
         })?;
-        Ok(Put::Counted)
+        Ok(NewBlockPut::Counted)
     }
 }

@@ -2,13 +2,10 @@
 #![tactic(auto)]
 
 mod entry;
-mod first;
 mod inbox;
 mod laws;
-mod same;
-#[cfg(test)]
-mod tests;
+mod linked;
 
-pub use entry::Put;
+pub use entry::NewBlockPut;
 pub use inbox::{Inbox, Ready};
 pub use laws::commits_leave_an_inbox;

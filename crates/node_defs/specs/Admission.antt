@@ -1,5 +1,5 @@
 -- Admission: which requests are admitted, as which transactions, and why the others are rejected.
-use Rattle.std.specs.Prelude.{ℕ, suc, ◌==◌, Bool, true, false, ◌&&◌, not, if◌then◌else◌, List, [], ◌∷◌, length, Option, Some, None, Result, Ok, Err, nat_le}
+use Rattle.std.specs.Prelude.{ℕ, suc, ◌==◌, Bool, true, false, ◌&&◌, not, if◌then◌else◌, List, [], ◌∷◌, length, Option, Some, None, Result, Ok, Err, nat_le, IfSome}
 use Rattle.std.specs.List.{All, list_any}
 use Rattle.txn_types.specs.Values.{IsValue}
 use Rattle.txn_types.specs.Rising.{IsRising}
@@ -15,7 +15,7 @@ use Rattle.txn_types.specs.declared.stream.Piece.TheVariants as piece
 use Rattle.txn_types.specs.declared.stream.Item.{Item}
 use Rattle.txn_types.specs.declared.stream.Item.TheVariants as item
 use Rattle.oxii_defs.specs.Syntax.{Name, ParamKind, RecKind, NumKind, Formal, Op}
-use Rattle.oxii_defs.specs.Table.{App, Table, IsRecord}
+use Rattle.oxii_defs.specs.Table.{App, Table, IsRecord, IsLawfulTxn}
 use Rattle.oxii_defs.specs.Lawful.{IsLawfulConfig}
 use Rattle.node_defs.specs.Same.{same_list, same_number}
 
@@ -24,9 +24,9 @@ abbrev pub same_name : Name → Name → Bool
 same_name = same_list same_number
 
 -- the first that has this name, with its place, counted from i
-abbrev pub named : {A : Type 0} → (A → Name) → Name → ℕ → List A → Option (ℕ × A)
-named name_of name i [] = None
-named name_of name i (x ∷ rest) = if same_name (name_of x) name then Some (i, x) else named name_of name (suc i) rest
+abbrev pub first_named : {A : Type 0} → (A → Name) → Name → ℕ → List A → Option (ℕ × A)
+first_named name_of name i [] = None
+first_named name_of name i (x ∷ rest) = if same_name (name_of x) name then Some (i, x) else first_named name_of name (suc i) rest
 
 -- an argument has the kind of a parameter
 abbrev pub is_kind : ParamKind → Arg → Bool
@@ -61,12 +61,12 @@ with_op q app (Some op) = with_args op.1 (record { app = app; op = op.0; args = 
 abbrev pub with_app : Request → Option (ℕ × App) → Result Txn Reject
 with_app q None = Err UnknownApp
 with_app q (Some app) =
-    if list_any (same_name q.client) app.1.clients then with_op q app.0 (named (λ op. op.name) q.op 0 app.1.ops)
+    if list_any (same_name q.client) app.1.clients then with_op q app.0 (first_named (λ op. op.name) q.op 0 app.1.ops)
     else Err ClientNotAllowed
 
 -- the transaction of a request, or the first test that rejects it
 abbrev pub admit : Table → Request → Result Txn Reject
-admit table q = with_app q (named (λ app. app.name) q.app 0 table.apps)
+admit table q = with_app q (first_named (λ app. app.name) q.app 0 table.apps)
 
 -- THE STREAM
 
@@ -119,3 +119,12 @@ abbrev pub IsLawfulItem : Table → Item → Type 0
 IsLawfulItem table (item.Ask q) = IsLawfulRequest table q
 IsLawfulItem table item.Mark = Unit {0}
 IsLawfulItem table (item.Config c) = IsLawfulConfig table c
+
+-- what an admitted item carries: a lawful transaction, or a lawful configuration
+abbrev pub IsLawfulPiece : Table → Piece → Type 0
+IsLawfulPiece table (piece.Call t) = IsLawfulTxn table t
+IsLawfulPiece table (piece.Config c) = IsLawfulConfig table c
+
+-- what the items of a stream carry
+abbrev pub AreLawfulPieces : Table → List (Option Piece) → Type 0
+AreLawfulPieces table pieces = All (λ p. IfSome p (IsLawfulPiece table)) pieces

@@ -16,7 +16,7 @@ use Rattle.oxii_defs.specs.BlockBytes.{txn_bytes}
 use Rattle.node_defs.specs.Admission.{piece_of, reject_of}
 
 -- an admitted item, and whether a mark stands in the stream between it and the next admitted one
-pub record Admitted : Type 0 where
+pub record AdmittedItem : Type 0 where
   pub piece : Piece
   pub marked : Bool
 
@@ -27,12 +27,12 @@ mark_comes table (item.Mark ∷ rest) = true
 mark_comes table (x ∷ rest) = not (is_some (piece_of table x)) && mark_comes table rest
 
 -- one more in front, where the item is admitted
-abbrev pub admitted_with : Option Piece → Bool → List Admitted → List Admitted
+abbrev pub admitted_with : Option Piece → Bool → List AdmittedItem → List AdmittedItem
 admitted_with None marked rest = rest
 admitted_with (Some p) marked rest = record { piece = p; marked = marked } ∷ rest
 
 -- the configurations and the requests that no test rejects, in order
-abbrev pub admitted : Table → List Item → List Admitted
+abbrev pub admitted : Table → List Item → List AdmittedItem
 admitted table [] = []
 admitted table (x ∷ rest) = admitted_with (piece_of table x) (mark_comes table rest) (admitted table rest)
 
@@ -49,11 +49,11 @@ txns_in_piece (piece.Call t) = t ∷ []
 txns_in_piece (piece.Config c) = []
 
 -- the transactions of a list, in order
-abbrev pub txns_in : List Admitted → List Txn
+abbrev pub txns_in : List AdmittedItem → List Txn
 txns_in xs = flat_map (λ x. txns_in_piece x.piece) xs
 
 -- the bytes of its transactions together
-abbrev pub bytes_in : Table → List Admitted → ℕ
+abbrev pub bytes_in : Table → List AdmittedItem → ℕ
 bytes_in table xs = length (flat_map (txn_bytes table) (txns_in xs))
 
 -- a block's greatest count of transactions, and of their bytes together, are in their ranges
@@ -63,38 +63,38 @@ pub record AreLawfulLimits (limits : CutLimits) : Type 0 where
   pub bytes_to : limits.bytes ≤ 1048576
 
 -- it is a transaction
-abbrev pub IsCall : Admitted → Type 0
+abbrev pub IsCall : AdmittedItem → Type 0
 IsCall x = (t : Txn) × (x.piece ≡ piece.Call t)
 
 -- a configuration is alone in its list
-abbrev pub IsAlone : List Admitted → Type 0
+abbrev pub IsAlone : List AdmittedItem → Type 0
 IsAlone (x ∷ y ∷ rest) = AllByRecursion IsCall (x ∷ y ∷ rest)
 IsAlone _ = Unit {0}
 
 -- no mark stands between two of the list
-abbrev pub HasNoMark : List Admitted → Type 0
+abbrev pub HasNoMark : List AdmittedItem → Type 0
 HasNoMark (x ∷ y ∷ rest) = (x.marked ≡ false) × HasNoMark (y ∷ rest)
 HasNoMark _ = Unit {0}
 
 -- a mark stands behind its last
-abbrev pub last_marked : List Admitted → Bool
+abbrev pub last_marked : List AdmittedItem → Bool
 last_marked [] = false
 last_marked (x ∷ []) = x.marked
 last_marked (x ∷ y ∷ rest) = last_marked (y ∷ rest)
 
 -- it begins with a configuration
-abbrev pub BeginsWithConfig : List Admitted → Type 0
+abbrev pub BeginsWithConfig : List AdmittedItem → Type 0
 BeginsWithConfig [] = ⊥
 BeginsWithConfig (x ∷ rest) = (c : Config) × (x.piece ≡ piece.Config c)
 
 -- its first alone
-abbrev pub front : List Admitted → List Admitted
+abbrev pub front : List AdmittedItem → List AdmittedItem
 front [] = []
 front (x ∷ rest) = x ∷ []
 
 -- why a list ends where another follows it: it is a configuration, it is full by count,
 -- it is full by bytes, a mark follows it, or a configuration does
-abbrev pub EndsBefore : Table → CutLimits → List Admitted → List Admitted → Type 0
+abbrev pub EndsBefore : Table → CutLimits → List AdmittedItem → List AdmittedItem → Type 0
 EndsBefore table limits list next =
     BeginsWithConfig list
     ⊎ ((length list ≡ limits.txns)
@@ -103,12 +103,12 @@ EndsBefore table limits list next =
     ⊎ BeginsWithConfig next)))
 
 -- each list but the last one ends for a reason
-abbrev pub EndRightly : Table → CutLimits → List (List Admitted) → Type 0
+abbrev pub EndRightly : Table → CutLimits → List (List AdmittedItem) → Type 0
 EndRightly table limits (list ∷ next ∷ rest) = EndsBefore table limits list next × EndRightly table limits (next ∷ rest)
 EndRightly table limits _ = Unit {0}
 
 -- one of the lists of a cutting
-pub record IsPart (table : Table) (limits : CutLimits) (list : List Admitted) : Type 0 where
+pub record IsPart (table : Table) (limits : CutLimits) (list : List AdmittedItem) : Type 0 where
   pub filled : 0 < length list
   pub alone : IsAlone list
   pub few : length (txns_in list) ≤ limits.txns
@@ -116,7 +116,7 @@ pub record IsPart (table : Table) (limits : CutLimits) (list : List Admitted) : 
   pub unmarked : HasNoMark list
 
 -- a cutting of the admitted items into lists
-pub record IsCutting (table : Table) (limits : CutLimits) (items : List Admitted) (lists : List (List Admitted)) : Type 0 where
+pub record IsCutting (table : Table) (limits : CutLimits) (items : List AdmittedItem) (lists : List (List AdmittedItem)) : Type 0 where
   pub whole : flat_map (λ list. list) lists ≡ items
   pub parts : AllByRecursion (IsPart table limits) lists
   pub ends : EndRightly table limits lists
@@ -124,14 +124,14 @@ pub record IsCutting (table : Table) (limits : CutLimits) (items : List Admitted
 -- BODIES
 
 -- the configuration that a list begins with, if it does
-abbrev pub config_in : List Admitted → Option Config
+abbrev pub config_in : List AdmittedItem → Option Config
 config_in [] = None
 config_in (x ∷ rest) = elim x.piece [ piece.Call t ↦ None | piece.Config c ↦ Some c ]
 
 -- what a block of this list carries
-abbrev pub body_of : List Admitted → Body
-body_of list = record { txns = txns_in list; config = config_in list }
+abbrev pub carried_body : List AdmittedItem → Body
+carried_body list = record { txns = txns_in list; config = config_in list }
 
 -- the bodies of the agreed blocks
 abbrev pub AreAgreed : Table → CutLimits → List Item → List Body → Type 0
-AreAgreed table limits items bodies = (lists : List (List Admitted)) × IsCutting table limits (admitted table items) lists × (bodies ≡ map body_of lists)
+AreAgreed table limits items bodies = (lists : List (List AdmittedItem)) × IsCutting table limits (admitted table items) lists × (bodies ≡ map carried_body lists)

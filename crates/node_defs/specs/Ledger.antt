@@ -24,9 +24,9 @@ after_outcomes s (t ∷ rest) [] = s
 after_outcomes s (t ∷ rest) (o ∷ outcomes) = after_outcomes (apply s t o) rest outcomes
 
 -- the state after a ledger, the latest block first
-abbrev pub state_of : Rules → List Entry → State
-state_of rules [] = rules.genesis
-state_of rules (e ∷ before) = after_outcomes (state_of rules before) e.block.txns e.outcomes
+abbrev pub ledger_state : Rules → List Entry → State
+ledger_state rules [] = rules.genesis
+ledger_state rules (e ∷ before) = after_outcomes (ledger_state rules before) e.block.txns e.outcomes
 
 -- COMPLETED BLOCKS
 
@@ -36,7 +36,7 @@ work_on rules me m done L block = record {
   me = me;
   n = suc m;
   txns = block.txns;
-  base = state_of rules (done L);
+  base = ledger_state rules (done L);
   opens = λ K. is_some (accepted_after rules m (done K) K);
 }
 
@@ -53,14 +53,14 @@ abbrev pub agreed_outcome : Standing → Outcome
 agreed_outcome s = unwrap_or s.agreed no_outcome
 
 -- a block goes to the ledger once each position is agreed, and none that ran was agreed with another outcome
-abbrev pub closed : Block → List Standing → List Entry → List Entry
-closed block all done = if list_all is_agreed all then record { block = block; outcomes = map agreed_outcome all } ∷ done else done
+abbrev pub with_entry : Block → List Standing → List Entry → List Entry
+with_entry block all done = if list_all is_agreed all then record { block = block; outcomes = map agreed_outcome all } ∷ done else done
 
--- the completed blocks with the next one, where it is accepted and closed
+-- the completed blocks with the next one, where it is accepted and its positions are agreed
 abbrev pub completed_with : Rules → ℕ → ℕ → (Log → List Entry) → Log → Option Block → List Entry
 completed_with rules me m done L None = done L
 completed_with rules me m done L (Some block) =
-    closed block (standings (in_force rules (done L)) (work_on rules me m done L block) (length block.txns) L) (done L)
+    with_entry block (standings (in_force rules (done L)) (work_on rules me m done L block) (length block.txns) L) (done L)
 
 -- the completed blocks among the first n, the latest first
 abbrev pub completed : Rules → ℕ → ℕ → Log → List Entry

@@ -48,9 +48,9 @@ first_newblocks rules n L = first_of_each (filter_map (newblock_in rules n) L)
 -- VOTES
 
 -- the outcomes that votes give position t, in their order
-abbrev pub votes_on : ℕ → List Vote → List Outcome
-votes_on t [] = []
-votes_on t (v ∷ rest) = if v.t == t then v.outcome ∷ votes_on t rest else votes_on t rest
+abbrev pub outcomes_on : ℕ → List Vote → List Outcome
+outcomes_on t [] = []
+outcomes_on t (v ∷ rest) = if v.t == t then v.outcome ∷ outcomes_on t rest else outcomes_on t rest
 
 -- a peer of the table, and not this one
 abbrev pub is_other : Rules → ℕ → ℕ → Bool
@@ -59,7 +59,7 @@ is_other rules me p = nat_lt p (length rules.table.peers) && not (p == me)
 -- what a sender votes with a message on position t of block n: a COMMIT of another peer alone is heard
 abbrev pub votes_from : Rules → ℕ → ℕ → ℕ → Node → Message → List (ℕ × Outcome)
 votes_from rules me n t (Peer p) (message.Commit c) =
-    if is_other rules me p && (c.n == n) then map (λ o. (p, o)) (reverse (votes_on t c.votes)) else []
+    if is_other rules me p && (c.n == n) then map (λ o. (p, o)) (reverse (outcomes_on t c.votes)) else []
 votes_from rules me n t _ _ = []
 
 -- what an entry votes on position t of block n: its sender with each outcome, the latest first

@@ -16,12 +16,12 @@ use Rattle.node_defs.specs.Ledger.{completed, work_on, all_standings, is_split, 
 -- THE RUN ORDER
 
 -- how a position stands that a block doesn't have
-abbrev pub nothing : Standing
-nothing = record { ran = false; agreed = None; believed = None }
+abbrev pub no_standing : Standing
+no_standing = record { ran = false; agreed = None; believed = None }
 
 -- position t of the block ran
 abbrev pub did_run : Rules → Work → ℕ → Log → Bool
-did_run rules w t L = (get_or (all_standings rules w L) t nothing).ran
+did_run rules w t L = (get_or (all_standings rules w L) t no_standing).ran
 
 -- of the first t positions those that ran with entry e, the last of them first
 abbrev pub newly_ran : Rules → Work → Letter → Log → ℕ → List ℕ
@@ -66,21 +66,21 @@ batches rules w (t ∷ before) = if is_cut rules w (t ∷ before) then (t ∷ he
 
 -- a vote on t, with the peer's believed outcome
 abbrev pub vote_on : List Standing → ℕ → Vote
-vote_on all t = record { t = t; outcome = unwrap_or (get_or all t nothing).believed no_outcome }
+vote_on all t = record { t = t; outcome = unwrap_or (get_or all t no_standing).believed no_outcome }
 
 -- the COMMIT of a batch, in run order
 abbrev pub commit_of : Work → List Standing → List ℕ → Commit
 commit_of w all batch = record { n = w.n; votes = map (vote_on all) (reverse batch) }
 
 -- behind the last position of the batch a cut stands that came with entry e
-abbrev pub is_new : Rules → Work → Letter → Log → List ℕ → Bool
-is_new rules w e L [] = false
-is_new rules w e L (t ∷ before) = not (did_run rules w t L)
+abbrev pub is_due : Rules → Work → Letter → Log → List ℕ → Bool
+is_due rules w e L [] = false
+is_due rules w e L (t ∷ before) = not (did_run rules w t L)
 
 -- the COMMITs of one block that the last entry of the log makes the peer send, in order
 abbrev pub sent_of : Rules → Work → Letter → Log → List Commit
 sent_of rules w e L =
-    map (commit_of w (all_standings rules w (e ∷ L))) (reverse (filter (is_new rules w e L) (batches rules w (run_order rules w (e ∷ L)))))
+    map (commit_of w (all_standings rules w (e ∷ L))) (reverse (filter (is_due rules w e L) (batches rules w (run_order rules w (e ∷ L)))))
 
 -- of block m + 1, where it is accepted
 abbrev pub sent_with : Rules → ℕ → ℕ → Letter → Log → Option Block → List Commit

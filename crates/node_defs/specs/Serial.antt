@@ -7,7 +7,7 @@ use Rattle.oxii_defs.specs.State.{State}
 use Rattle.oxii_defs.specs.Outcomes.{apply}
 use Rattle.oxii_defs.specs.Lines.{Entry}
 use Rattle.node_defs.specs.Rules.{Rules}
-use Rattle.node_defs.specs.Ledger.{state_of}
+use Rattle.node_defs.specs.Ledger.{ledger_state}
 
 -- one transaction after another: the outcomes
 abbrev pub serial : Rules → State → List Txn → List Outcome
@@ -26,11 +26,11 @@ block_at chain m = get_or chain m no_block
 abbrev pub serial_ledger : Rules → List Block → ℕ → List Entry
 serial_ledger rules chain zero = []
 serial_ledger rules chain (suc m) =
-    record { block = block_at chain m; outcomes = serial rules (state_of rules (serial_ledger rules chain m)) (block_at chain m).txns } ∷ serial_ledger rules chain m
+    record { block = block_at chain m; outcomes = serial rules (ledger_state rules (serial_ledger rules chain m)) (block_at chain m).txns } ∷ serial_ledger rules chain m
 
 -- the state before block m + 1
 abbrev pub serial_base : Rules → List Block → ℕ → State
-serial_base rules chain m = state_of rules (serial_ledger rules chain m)
+serial_base rules chain m = ledger_state rules (serial_ledger rules chain m)
 
 -- the outcomes of block m + 1
 abbrev pub serial_outcomes_at : Rules → List Block → ℕ → List Outcome

@@ -15,7 +15,7 @@ use Rattle.oxii_defs.specs.State.{State}
 use Rattle.oxii_defs.specs.Table.{Table}
 use Rattle.oxii_defs.specs.Lines.{outcome_text, peer_lines, blocks_line, tail_lines}
 use Rattle.node_defs.specs.Log.{Log}
-use Rattle.node_defs.specs.Ledger.{Halt, halt, heard, ledger, state_of}
+use Rattle.node_defs.specs.Ledger.{Halt, halt, heard, ledger, ledger_state}
 use Rattle.node_defs.specs.Cutting.{AreAgreed, rejected_from}
 use Rattle.node_defs.specs.World.{Setting, setting_of, IsWorld, World, is_faulty, peers_of, count_from, log_of}
 
@@ -47,7 +47,7 @@ halted_line table (Some h) =
 abbrev pub part_of : Setting → ℕ → Log → List ℕ
 part_of s p L =
     let done = ledger s.rules p (heard s.rules p L) in
-    peer_lines s.rules.table p (reverse done) (state_of s.rules done) ++ halted_line s.rules.table (halt s.rules p L)
+    peer_lines s.rules.table p (reverse done) (ledger_state s.rules done) ++ halted_line s.rules.table (halt s.rules p L)
 
 -- the parts of these peers that aren't faulty
 abbrev pub parts_of : Setting → World → List ℕ → List ℕ

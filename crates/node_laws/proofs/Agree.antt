@@ -11,8 +11,8 @@ use Rattle.std.proofs.Math.Seq.{take-suc}
 use Rattle.known_defs.specs.Known.{knows_all, no_outcome, txn_at}
 use Rattle.node_defs.specs.Accepted.{accepted, accepted_after, tip}
 use Rattle.node_defs.specs.Counting.{first_of_each}
-use Rattle.node_defs.specs.Ledger.{agreed_outcome, closed, completed, completed_with, differs, is_agreed, state_of, work_on}
-use Rattle.node_defs.specs.Log.{Letter, Log, is_good, is_other, newblock_from, newblock_in, votes_from, votes_in, votes_on}
+use Rattle.node_defs.specs.Ledger.{agreed_outcome, with_entry, completed, completed_with, differs, is_agreed, ledger_state, work_on}
+use Rattle.node_defs.specs.Log.{Letter, Log, is_good, is_other, newblock_from, newblock_in, votes_from, votes_in, outcomes_on}
 use Rattle.node_defs.specs.Position.{Standing, Work, agreed, ballots, is_agent, is_ready, own_outcome, ran, standing, standings}
 use Rattle.node_defs.specs.Rules.{IsLocal, Rules, in_force}
 use Rattle.node_defs.specs.Same.{same_block, same_list, same_number, same_outcome}
@@ -54,11 +54,11 @@ for_has faulty r (y ∷ ys) x a (inl e) = subst (λ (z : ℕ × Outcome). faulty
 for_has faulty r (y ∷ ys) x a (inr h) = for_has faulty r ys x a.1 h
 
 -- what right votes say of position t of block m + 1
-votes_right : (rules : Rules) (chain : List Block) (m t : ℕ) → m < length chain → t < length (block_at chain m).txns → (vs : List Vote) → AllByRecursion (IsRight rules chain (suc m)) vs → AllByRecursion (λ o. o ≡ get_or (serial_outcomes_at rules chain m) t no_outcome) (votes_on t vs)
+votes_right : (rules : Rules) (chain : List Block) (m t : ℕ) → m < length chain → t < length (block_at chain m).txns → (vs : List Vote) → AllByRecursion (IsRight rules chain (suc m)) vs → AllByRecursion (λ o. o ≡ get_or (serial_outcomes_at rules chain m) t no_outcome) (outcomes_on t vs)
 votes_right rules chain m t l k [] a = tt
 votes_right rules chain m t l k (v ∷ vs) a = one (v.t == t) refl (votes_right rules chain m t l k vs a.1)
   where
-    one : (b : Bool) → (v.t == t) ≡ b → AllByRecursion (λ o. o ≡ get_or (serial_outcomes_at rules chain m) t no_outcome) (votes_on t vs) → AllByRecursion (λ o. o ≡ get_or (serial_outcomes_at rules chain m) t no_outcome) (cond b (v.outcome ∷ votes_on t vs) (votes_on t vs))
+    one : (b : Bool) → (v.t == t) ≡ b → AllByRecursion (λ o. o ≡ get_or (serial_outcomes_at rules chain m) t no_outcome) (outcomes_on t vs) → AllByRecursion (λ o. o ≡ get_or (serial_outcomes_at rules chain m) t no_outcome) (cond b (v.outcome ∷ outcomes_on t vs) (outcomes_on t vs))
     one false e h = h
     one true e h =
         let i : v.t ≡ t = eqb-true v.t t e in
@@ -88,10 +88,10 @@ entry_right rules chain faulty me m t l k e s = from e.from e.message s
     r : Outcome
     r = get_or (serial_outcomes_at rules chain m) t no_outcome
 
-    votes : (p n : ℕ) (vs : List Vote) (o b : Bool) → (n == suc m) ≡ b → (faulty (Peer p) ≡ false → AllByRecursion (IsRight rules chain n) vs) → AllFor faulty r (cond (o && b) (map (λ o. (p, o)) (reverse (votes_on t vs))) [])
+    votes : (p n : ℕ) (vs : List Vote) (o b : Bool) → (n == suc m) ≡ b → (faulty (Peer p) ≡ false → AllByRecursion (IsRight rules chain n) vs) → AllFor faulty r (cond (o && b) (map (λ o. (p, o)) (reverse (outcomes_on t vs))) [])
     votes p n vs false b q h = tt
     votes p n vs true false q h = tt
-    votes p n vs true true q h = ⊎_elim (λ f. faulty_map faulty p r _ f) (λ f. all_for_map faulty p r _ (all_reverse (λ o. o ≡ r) (votes_on t vs) (votes_right rules chain m t l k vs (subst (λ j. AllByRecursion (IsRight rules chain j) vs) (eqb-true n (suc m) q) (h f))))) (cases_Bool (faulty (Peer p)))
+    votes p n vs true true q h = ⊎_elim (λ f. faulty_map faulty p r _ f) (λ f. all_for_map faulty p r _ (all_reverse (λ o. o ≡ r) (outcomes_on t vs) (votes_right rules chain m t l k vs (subst (λ j. AllByRecursion (IsRight rules chain j) vs) (eqb-true n (suc m) q) (h f))))) (cases_Bool (faulty (Peer p)))
 
     from : (x : Node) (msg : Message) → (faulty x ≡ false → SaysRight rules chain x msg) → AllFor faulty r (votes_from rules me (suc m) t x msg)
     from (Orderer o) (message.NewBlock nb) h = tt
@@ -313,7 +313,7 @@ length_serial_ledger rules chain (suc m) = ap suc (length_serial_ledger rules ch
 abbrev IsFront : Rules → List Block → List Entry → Type 0
 IsFront rules chain d = (d ≡ serial_ledger rules chain (length d)) × (length d ≤ length chain)
 
-closed_right : (rules : Rules) (chain : List Block) (m : ℕ) (xs : List Standing) → m < length chain → AllRight (serial_outcomes_at rules chain m) xs → IsFront rules chain (closed (block_at chain m) xs (serial_ledger rules chain m))
+closed_right : (rules : Rules) (chain : List Block) (m : ℕ) (xs : List Standing) → m < length chain → AllRight (serial_outcomes_at rules chain m) xs → IsFront rules chain (with_entry (block_at chain m) xs (serial_ledger rules chain m))
 closed_right rules chain m xs j a = one (list_all is_agreed xs) refl
   where
     n : length (serial_ledger rules chain m) ≡ m
@@ -340,13 +340,13 @@ ledger_right rules l chain faulty tame numbered me (suc m) L s = one (accepted_a
     one None q h = h
     one (Some b) q h = two (length done == m) refl q
       where
-        two : (c : Bool) → (length done == m) ≡ c → cond c (accepted rules (suc m) (tip rules done) L) None ≡ Some b → (closed b (standings (in_force rules (completed rules me m L)) (work_on rules me m (completed rules me m) L b) (length b.txns) L) done ≡ serial_ledger rules chain (length (closed b (standings (in_force rules (completed rules me m L)) (work_on rules me m (completed rules me m) L b) (length b.txns) L) done))) × (length (closed b (standings (in_force rules (completed rules me m L)) (work_on rules me m (completed rules me m) L b) (length b.txns) L) done) ≤ length chain)
+        two : (c : Bool) → (length done == m) ≡ c → cond c (accepted rules (suc m) (tip rules done) L) None ≡ Some b → (with_entry b (standings (in_force rules (completed rules me m L)) (work_on rules me m (completed rules me m) L b) (length b.txns) L) done ≡ serial_ledger rules chain (length (with_entry b (standings (in_force rules (completed rules me m L)) (work_on rules me m (completed rules me m) L b) (length b.txns) L) done))) × (length (with_entry b (standings (in_force rules (completed rules me m L)) (work_on rules me m (completed rules me m) L b) (length b.txns) L) done) ≤ length chain)
         two false e k = absurd (none-some b k)
         two true e k =
             let n : length done ≡ m = eqb-true (length done) m e in
             let acc = accepted_right (in_force rules (serial_ledger rules chain m)) chain faulty m (tame m).orderers numbered (tip rules done) L s b k in
             let d : done ≡ serial_ledger rules chain m = h.0 ∙ ap (serial_ledger rules chain) n in
             let opens : Log → Bool = λ K. is_some (accepted_after rules m (completed rules me m K) K) in
-            let P : Block → List Entry → Type 0 = λ c ds. IsFront rules chain (closed c (standings (in_force rules ds) (record { me = me; n = suc m; txns = c.txns; base = state_of rules ds; opens = opens }) (length c.txns) L) ds) in
+            let P : Block → List Entry → Type 0 = λ c ds. IsFront rules chain (with_entry c (standings (in_force rules ds) (record { me = me; n = suc m; txns = c.txns; base = ledger_state rules ds; opens = opens }) (length c.txns) L) ds) in
             let base : P (block_at chain m) (serial_ledger rules chain m) = closed_right rules chain m (standings (in_force rules (serial_ledger rules chain m)) (chain_work rules chain me m opens) (length (block_at chain m).txns) L) acc.0 (block_right (in_force rules (serial_ledger rules chain m)) l chain faulty me m (tame m) opens acc.0 L s) in
             subst (λ c. P c done) (sym acc.1) (subst (λ ds. P (block_at chain m) ds) (sym d) base)

@@ -7,11 +7,11 @@ use Rattle.std.proofs.lemmas.Option.{none-some}
 use Rattle.std.proofs.lemmas.List.{reverse-append}
 use Rattle.known_defs.specs.Known.{no_outcome}
 use Rattle.node_defs.specs.Accepted.{accepted, accepted_after, tip}
-use Rattle.node_defs.specs.Ledger.{all_standings, completed, differs, first_halt, halt_in, heard, is_split, ledger, split, state_of, work_on}
+use Rattle.node_defs.specs.Ledger.{all_standings, completed, differs, first_halt, halt_in, heard, is_split, ledger, split, ledger_state, work_on}
 use Rattle.node_defs.specs.Log.{Letter, Log}
 use Rattle.node_defs.specs.Position.{Standing, Work, agreed, is_ready, own_outcome, ran, standing, standings}
 use Rattle.node_defs.specs.Rules.{IsLocal, Rules, in_force}
-use Rattle.node_defs.specs.Sent.{batches, commit_of, did_run, held, is_cut, is_new, newly_ran, nothing, run_order, sent, sent_in, sent_of, sent_upto, sent_with, vote_on}
+use Rattle.node_defs.specs.Sent.{batches, commit_of, did_run, held, is_cut, is_due, newly_ran, no_standing, run_order, sent, sent_in, sent_of, sent_upto, sent_with, vote_on}
 use Rattle.node_defs.specs.Serial.{IsNumbered, block_at, serial_base, serial_ledger, serial_outcomes_at}
 use Rattle.node_laws.proofs.Agree.{AllRight, Sound, accepted_right, block_right, ledger_right, none_differs}
 use Rattle.node_laws.proofs.Few.{IsTameAll}
@@ -40,7 +40,7 @@ works_right rules l chain faulty tame numbered me m L s b q = one (length done =
         let acc = accepted_right (in_force rules (serial_ledger rules chain m)) chain faulty m (tame m).orderers numbered (tip rules done) L s b k in
         let d : done ≡ serial_ledger rules chain m = (ledger_right rules l chain faulty tame numbered me m L s).0 ∙ ap (serial_ledger rules chain) n in
         let opens : Log → Bool = λ K. is_some (accepted_after rules m (completed rules me m K) K) in
-        let P : Block → List Entry → Type 0 = λ c ds. AllRight (serial_outcomes_at rules chain m) (standings (in_force rules ds) (record { me = me; n = suc m; txns = c.txns; base = state_of rules ds; opens = opens }) (length c.txns) L) in
+        let P : Block → List Entry → Type 0 = λ c ds. AllRight (serial_outcomes_at rules chain m) (standings (in_force rules ds) (record { me = me; n = suc m; txns = c.txns; base = ledger_state rules ds; opens = opens }) (length c.txns) L) in
         let base : P (block_at chain m) (serial_ledger rules chain m) = block_right (in_force rules (serial_ledger rules chain m)) l chain faulty me m (tame m) opens acc.0 L s in
         (acc.0, subst (λ c. P c done) (sym acc.1) (subst (λ ds. P (block_at chain m) ds) (sym d) base))
 
@@ -95,7 +95,7 @@ all_at P [] t d h a = h
 all_at P (x ∷ xs) zero d h a = a.0
 all_at P (x ∷ xs) (suc t) d h a = all_at P xs t d h a.1
 
-pub keep_at : (xs ys : List Standing) (t : ℕ) → KeepAll xs ys → (get_or xs t nothing).ran ≡ true → (get_or ys t nothing).ran ≡ true
+pub keep_at : (xs ys : List Standing) (t : ℕ) → KeepAll xs ys → (get_or xs t no_standing).ran ≡ true → (get_or ys t no_standing).ran ≡ true
 keep_at [] [] t k h = h
 keep_at [] (y ∷ ys) t k h = absurd k
 keep_at (x ∷ xs) [] t k h = absurd k
@@ -112,7 +112,7 @@ ran_known rules w K zero = tt
 ran_known rules w K (suc t) = all_append (λ (x : Standing). x.ran ≡ true → is_some x.believed ≡ true) (standings rules w t K) (standing rules w t (standings rules w t) K ∷ []) (ran_known rules w K t)
     (if_ran (ran rules w t (standings rules w t) K) (own_outcome rules w t (standings rules w t) K) (cond (is_ready rules w t (w.opens K) (standings rules w t K)) (agreed rules w t (standings rules w t) K) None), tt)
 
-pub believed_at : (os : List Outcome) (xs : List Standing) (t : ℕ) (o : Outcome) → AllRight os xs → (get_or xs t nothing).believed ≡ Some o → o ≡ get_or os t no_outcome
+pub believed_at : (os : List Outcome) (xs : List Standing) (t : ℕ) (o : Outcome) → AllRight os xs → (get_or xs t no_standing).believed ≡ Some o → o ≡ get_or os t no_outcome
 believed_at [] [] t o a h = absurd (none-some o h)
 believed_at [] (x ∷ xs) t o a h = absurd a
 believed_at (p ∷ os) [] t o a h = absurd a
@@ -146,7 +146,7 @@ batches_all rules w P [] a = tt
 batches_all rules w P (t ∷ ts) a = elim (is_cut rules w (t ∷ ts)) as (λ b. AllByRecursion (AllByRecursion P) (cond b ((t ∷ held rules w ts) ∷ batches rules w ts) (batches rules w ts))) [ true ↦ ((a.0, held_all rules w P ts a.1), batches_all rules w P ts a.1) | false ↦ batches_all rules w P ts a.1 ]
 
 -- what ran is a position of the block
-ran_in : (os : List Outcome) (xs : List Standing) (t : ℕ) → AllRight os xs → (get_or xs t nothing).ran ≡ true → t < length os
+ran_in : (os : List Outcome) (xs : List Standing) (t : ℕ) → AllRight os xs → (get_or xs t no_standing).ran ≡ true → t < length os
 ran_in [] [] t a h = absurd (false≢true h)
 ran_in [] (x ∷ xs) t a h = absurd a
 ran_in (o ∷ os) [] t a h = absurd a
@@ -160,13 +160,13 @@ vote_right rules chain w m K within a t r = (
   within,
   refl,
   omega (arith, ran_in (serial_outcomes_at rules chain m) all t a r, length_serial rules (serial_base rules chain m) (block_at chain m).txns),
-  one (get_or all t nothing).believed refl (all_at (λ (x : Standing). x.ran ≡ true → is_some x.believed ≡ true) all t nothing (λ h. absurd (false≢true h)) (ran_known rules w K (length w.txns)) r),
+  one (get_or all t no_standing).believed refl (all_at (λ (x : Standing). x.ran ≡ true → is_some x.believed ≡ true) all t no_standing (λ h. absurd (false≢true h)) (ran_known rules w K (length w.txns)) r),
 )
   where
     all : List Standing
     all = all_standings rules w K
 
-    one : (b : Option Outcome) → (get_or all t nothing).believed ≡ b → is_some (get_or all t nothing).believed ≡ true → unwrap_or (get_or all t nothing).believed no_outcome ≡ get_or (serial_outcomes_at rules chain m) t no_outcome
+    one : (b : Option Outcome) → (get_or all t no_standing).believed ≡ b → is_some (get_or all t no_standing).believed ≡ true → unwrap_or (get_or all t no_standing).believed no_outcome ≡ get_or (serial_outcomes_at rules chain m) t no_outcome
     one None e s = absurd (false≢true (sym (ap is_some e) ∙ s))
     one (Some o) e s = ap (λ (b : Option Outcome). unwrap_or b no_outcome) e ∙ believed_at (serial_outcomes_at rules chain m) all t o a e
 
@@ -179,10 +179,10 @@ sent_of_right rules l chain w m e L within n op a =
     let K = e ∷ L in
     let bs = batches rules w (run_order rules w K) in
     let ran = batches_all rules w (λ t. did_run rules w t K ≡ true) (run_order rules w K) (order_ran rules l w op K) in
-    all_map (IsRightCommit rules chain) (commit_of w (all_standings rules w K)) (reverse (filter (is_new rules w e L) bs))
+    all_map (IsRightCommit rules chain) (commit_of w (all_standings rules w K)) (reverse (filter (is_due rules w e L) bs))
     (all_more (AllRan rules w K) (λ b. IsRightCommit rules chain (commit_of w (all_standings rules w K) b))
     (λ b r. all_map (IsRight rules chain w.n) (vote_on (all_standings rules w K)) (reverse b) (all_more (λ t. did_run rules w t K ≡ true) (λ t. IsRight rules chain w.n (vote_on (all_standings rules w K) t)) (λ t h. subst (λ j. IsRight rules chain j (vote_on (all_standings rules w K) t)) (sym n) (vote_right rules chain w m K within a t h)) (reverse b) (all_reverse (λ t. did_run rules w t K ≡ true) b r)))
-    (reverse (filter (is_new rules w e L) bs)) (all_reverse (AllRan rules w K) (filter (is_new rules w e L) bs) (all_filter (AllRan rules w K) (is_new rules w e L) bs ran)))
+    (reverse (filter (is_due rules w e L) bs)) (all_reverse (AllRan rules w K) (filter (is_due rules w e L) bs) (all_filter (AllRan rules w K) (is_due rules w e L) bs ran)))
 
 pub sent_right : (rules : Rules) → IsLocal rules → (chain : List Block) (faulty : Node → Bool) → IsTameAll rules chain faulty → IsNumbered chain → (me : ℕ) (L : Log) → Sound rules chain faulty L → AllByRecursion (IsRightCommit rules chain) (sent rules me L)
 sent_right rules l chain faulty tame numbered me [] s = tt

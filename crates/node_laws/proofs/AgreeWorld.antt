@@ -3,19 +3,20 @@ use Rattle.txn_types.specs.declared.event.Event.TheVariants as event
 use Rattle.oxii_defs.specs.Chain.{no_hash, chain_from, chain as agreed_chain}
 use Rattle.std.specs.Prelude.{ℕ, ◌+◌, ◌<◌, ◌≡◌, Bool, true, false, cond, List, [], ◌∷◌, map, length, get_or, set, Option, Some, None, suc, zero, slice_get, refl, ◌==◌}
 use Rattle.std.specs.List.{AllByRecursion}
+use Rattle.std.proofs.lemmas.List.Elements.{recursion_from_All}
 use Rattle.std.proofs.Common.{sym, ◌∙◌, ap, subst, arith, replicate}
 use Rattle.std.proofs.lemmas.Bool.{eqb-true, true≢false}
 use Rattle.std.proofs.lemmas.Option.{none-some, same_Some}
 use Rattle.known_defs.specs.Known.{no_outcome}
 use Rattle.node_defs.specs.Accepted.{accepted, tip}
-use Rattle.node_defs.specs.Ledger.{completed, heard, state_of}
+use Rattle.node_defs.specs.Ledger.{completed, heard, ledger_state}
 use Rattle.node_defs.specs.Log.{Letter, Log}
 use Rattle.node_defs.specs.Position.{Standing}
 use Rattle.node_defs.specs.Rules.{IsLocal, in_force}
-use Rattle.node_defs.specs.Sent.{nothing, sent}
+use Rattle.node_defs.specs.Sent.{no_standing, sent}
 use Rattle.node_defs.specs.Serial.{IsNumbered, block_at, serial_ledger, serial_outcomes_at}
 use Rattle.node_defs.specs.Tame.{IsTame}
-use Rattle.node_defs.specs.World.{IsLawfulEvent, IsWorld, LeadTo, Setting, World, all_from, count_from, delivered, first_pool, given, given_all, given_each, happens, idled, is_faulty, log_of, message_at, newblock_of, newblocks_of, orderers_of, peers_of, said_by, says, setting_of, start}
+use Rattle.node_defs.specs.World.{IsSaidByFaulty, IsWorld, LeadTo, Setting, World, all_from, count_from, delivered, first_pool, given_to, given_all, given_each, happens, idled, is_faulty, log_of, message_at, newblock_of, newblocks_of, orderers_of, peers_of, said_by, says, setting_of, start}
 use Rattle.node_laws.proofs.Agree.{AllRight, Sound, accepted_right, ledger_right}
 use Rattle.node_laws.proofs.AgreeSent.{IsRightCommit, all_append, all_at, all_map, all_more, believed_at, hears_all, never_split, sent_right, works_right}
 use Rattle.node_laws.proofs.Few.{IsTameAll, tame_all}
@@ -55,7 +56,7 @@ pub record Premises (s : Setting) (chain : List Block) : Type 0 where
   pub tame : IsTameAll s.rules chain (is_faulty s)
   pub numbered : IsNumbered chain
 
-pub given_sound : (s : Setting) (chain : List Block) → Premises s chain → (w : World) (p : ℕ) (x : Letter) → IsSound s.rules chain (is_faulty s) x → WorldSound s chain w → WorldSound s chain (given s w p x)
+pub given_sound : (s : Setting) (chain : List Block) → Premises s chain → (w : World) (p : ℕ) (x : Letter) → IsSound s.rules chain (is_faulty s) x → WorldSound s chain w → WorldSound s chain (given_to s w p x)
 given_sound s chain h w p x good a =
     let log : Sound s.rules chain (is_faulty s) (x ∷ get_or w.logs p []) = (good, all_at (Sound s.rules chain (is_faulty s)) w.logs p [] tt a.logs) in
     let L = x ∷ get_or w.logs p [] in
@@ -73,7 +74,7 @@ pub each_sound : (s : Setting) (chain : List Block) → Premises s chain → (x 
 each_sound s chain h x good [] w a = a
 each_sound s chain h x good (p ∷ ps) w a = each_sound s chain h x good ps _ (one (is_faulty s (Peer p)))
   where
-    one : (b : Bool) → WorldSound s chain (cond b w (given s w p x))
+    one : (b : Bool) → WorldSound s chain (cond b w (given_to s w p x))
     one true = a
     one false = given_sound s chain h w p x good a
 
@@ -96,7 +97,7 @@ all_sound s chain h (suc turns) m w u e a = go (message_at w m) refl e (λ v k. 
 pub says_sound : (s : Setting) (chain : List Block) (w : World) (from : Node) (m : Message) → is_faulty s from ≡ true → WorldSound s chain w → WorldSound s chain (says w from m)
 says_sound s chain w from m f a = record { pool = all_append (IsSound s.rules chain (is_faulty s)) w.pool (record { from = from; message = m } ∷ []) a.pool ((λ g. absurd (true≢false (sym f ∙ g))), tt); logs = a.logs }
 
-pub happens_sound : (s : Setting) (chain : List Block) → Premises s chain → (turns : ℕ) (w u : World) (e : Event) → IsLawfulEvent s e → happens s turns w e ≡ Some u → WorldSound s chain w → WorldSound s chain u
+pub happens_sound : (s : Setting) (chain : List Block) → Premises s chain → (turns : ℕ) (w u : World) (e : Event) → IsSaidByFaulty s e → happens s turns w e ≡ Some u → WorldSound s chain w → WorldSound s chain u
 happens_sound s chain h turns w u event.All f q a = all_sound s chain h turns 1 w u q a
 happens_sound s chain h turns w u (event.SayBlock from number prev items preds) f q a = subst (WorldSound s chain) (same_Some _ u q) (says_sound s chain w from _ f a)
 happens_sound s chain h turns w u (event.SayCommit from commit) f q a = subst (WorldSound s chain) (same_Some _ u q) (says_sound s chain w from _ f a)
@@ -104,9 +105,9 @@ happens_sound s chain h turns w u (event.Deliver m p) f q a = subst (WorldSound 
   where
     one : (o : Option Letter) → message_at w m ≡ o → WorldSound s chain (delivered s w p o)
     one None k = record { pool = a.pool; logs = a.logs }
-    one (Some x) k = elim (is_faulty s (Peer p)) as (λ b. WorldSound s chain (cond b (idled w) (given s w p x))) [ true ↦ record { pool = a.pool; logs = a.logs } | false ↦ given_sound s chain h w p x (at_sound s chain w m x k a) a ]
+    one (Some x) k = elim (is_faulty s (Peer p)) as (λ b. WorldSound s chain (cond b (idled w) (given_to s w p x))) [ true ↦ record { pool = a.pool; logs = a.logs } | false ↦ given_sound s chain h w p x (at_sound s chain w m x k a) a ]
 
-world_sound : (s : Setting) (chain : List Block) → Premises s chain → (es : List Event) (w u : World) → AllByRecursion (IsLawfulEvent s) es → LeadTo s w es u → WorldSound s chain w → WorldSound s chain u
+world_sound : (s : Setting) (chain : List Block) → Premises s chain → (es : List Event) (w u : World) → AllByRecursion (IsSaidByFaulty s) es → LeadTo s w es u → WorldSound s chain w → WorldSound s chain u
 world_sound s chain h [] w u f q a = subst (WorldSound s chain) (sym q) a
 world_sound s chain h (e ∷ es) w u f q a = world_sound s chain h es q.0 u f.1 q.2 (happens_sound s chain h q.1.0 w q.0 e f.0 q.1.1 a)
 
@@ -136,7 +137,7 @@ start_sound s = record { pool = pool_sound s s.chain s.chain (all_of s.chain); l
 
 -- ONE PEER
 
-agreed_at : (os : List Outcome) (xs : List Standing) (t : ℕ) (o : Outcome) → AllRight os xs → (get_or xs t nothing).agreed ≡ Some o → o ≡ get_or os t no_outcome
+agreed_at : (os : List Outcome) (xs : List Standing) (t : ℕ) (o : Outcome) → AllRight os xs → (get_or xs t no_standing).agreed ≡ Some o → o ≡ get_or os t no_outcome
 agreed_at [] [] t o a h = absurd (none-some o h)
 agreed_at [] (x ∷ xs) t o a h = absurd a
 agreed_at (p ∷ os) [] t o a h = absurd a
@@ -168,10 +169,10 @@ with_chain s h p L good =
       known = λ m b t o e k. believed_at (serial_outcomes_at s.rules s.chain m) (standings_at s.rules p m b L) t o (works_right s.rules h.local s.chain (is_faulty s) h.tame h.numbered p m L good b e).1 k;
       few = r.1;
       blocks = r.0;
-      state = ap (state_of s.rules) r.0;
+      state = ap (ledger_state s.rules) r.0;
     }
 
-in_agreement : (s : Setting) → Premises s s.chain → (es : List Event) (w : World) → AllByRecursion (IsLawfulEvent s) es → IsWorld s es w → IsInAgreement s w
+in_agreement : (s : Setting) → Premises s s.chain → (es : List Event) (w : World) → AllByRecursion (IsSaidByFaulty s) es → IsWorld s es w → IsInAgreement s w
 in_agreement s h es w f lead = record { votes = sound.pool; peers = one }
   where
     sound : WorldSound s s.chain w
@@ -197,5 +198,6 @@ premises table genesis items bodies faulty tame = record {
 }
 
 pub agreement : Agreement
-agreement table genesis items bodies faulty events w tame lawful world =
-    in_agreement (setting_of table genesis items bodies faulty) (premises table genesis items bodies faulty tame) events w lawful world
+agreement table genesis items bodies faulty events w tame said world =
+    in_agreement (setting_of table genesis items bodies faulty) (premises table genesis items bodies faulty tame) events w
+    (recursion_from_All (IsSaidByFaulty (setting_of table genesis items bodies faulty)) events said) world

@@ -8,7 +8,7 @@ use Rattle.node_defs.specs.Ledger.{all_standings}
 use Rattle.node_defs.specs.Log.{Letter, Log}
 use Rattle.node_defs.specs.Position.{Work}
 use Rattle.node_defs.specs.Rules.{IsLocal, Rules}
-use Rattle.node_defs.specs.Sent.{batches, commit_of, did_run, held, is_cut, is_new, newly_ran, run_order, sent_of}
+use Rattle.node_defs.specs.Sent.{batches, commit_of, did_run, held, is_cut, is_due, newly_ran, run_order, sent_of}
 use Rattle.node_laws.proofs.AgreeSent.{AllRan, keep_at, order_ran}
 use Rattle.node_laws.proofs.Growing.{StaysOpen, standings_keep}
 
@@ -38,16 +38,16 @@ new_batches rules w p (t ∷ new) old a = one (is_cut rules w (t ∷ (new ++ old
         two false = omega arith
 
 -- what ended a batch of the shorter log isn't new
-pub old_batches : (rules : Rules) (w : Work) (e : Letter) (L : Log) (ts : List ℕ) → AllRan rules w L ts → AllByRecursion (λ b. is_new rules w e L b ≡ false) (batches rules w ts)
+pub old_batches : (rules : Rules) (w : Work) (e : Letter) (L : Log) (ts : List ℕ) → AllRan rules w L ts → AllByRecursion (λ b. is_due rules w e L b ≡ false) (batches rules w ts)
 old_batches rules w e L [] a = tt
-old_batches rules w e L (t ∷ ts) a = elim (is_cut rules w (t ∷ ts)) as (λ b. AllByRecursion (λ c. is_new rules w e L c ≡ false) (cond b ((t ∷ held rules w ts) ∷ batches rules w ts) (batches rules w ts))) [ true ↦ (ap not a.0, old_batches rules w e L ts a.1) | false ↦ old_batches rules w e L ts a.1 ]
+old_batches rules w e L (t ∷ ts) a = elim (is_cut rules w (t ∷ ts)) as (λ b. AllByRecursion (λ c. is_due rules w e L c ≡ false) (cond b ((t ∷ held rules w ts) ∷ batches rules w ts) (batches rules w ts))) [ true ↦ (ap not a.0, old_batches rules w e L ts a.1) | false ↦ old_batches rules w e L ts a.1 ]
 
 -- COMMITs of one block: those of the last entry and those before are no more than the batches
 pub sent_few : (rules : Rules) → IsLocal rules → (w : Work) → StaysOpen w → (e : Letter) (L : Log) → length (sent_of rules w e L) + length (batches rules w (run_order rules w L)) ≤ length (batches rules w (run_order rules w (e ∷ L)))
 sent_few rules l w op e L =
     let bs = batches rules w (run_order rules w (e ∷ L)) in
-    let h = new_batches rules w (is_new rules w e L) (newly_ran rules w e L (length w.txns)) (run_order rules w L) (old_batches rules w e L (run_order rules w L) (order_ran rules l w op L)) in
-    omega (arith, h, length-map (reverse (filter (is_new rules w e L) bs)) (commit_of w (all_standings rules w (e ∷ L))), length-reverse (filter (is_new rules w e L) bs))
+    let h = new_batches rules w (is_due rules w e L) (newly_ran rules w e L (length w.txns)) (run_order rules w L) (old_batches rules w e L (run_order rules w L) (order_ran rules l w op L)) in
+    omega (arith, h, length-map (reverse (filter (is_due rules w e L) bs)) (commit_of w (all_standings rules w (e ∷ L))), length-reverse (filter (is_due rules w e L) bs))
 
 -- how many of the first n positions ran
 abbrev pub ran_count : Rules → Work → Log → ℕ → ℕ

@@ -10,7 +10,7 @@ use Rattle.txn_types.specs.declared.txn.Outcome.{Outcome}
 use Rattle.txn_types.specs.declared.txn.Txn.{Txn}
 use Rattle.oxii_defs.specs.Lines.{Entry, blocks_line, peer_lines, tail_lines}
 use Rattle.node_defs.specs.Accepted.{accepted_after}
-use Rattle.node_defs.specs.Ledger.{completed_with, state_of, work_on}
+use Rattle.node_defs.specs.Ledger.{completed_with, ledger_state, work_on}
 use Rattle.node_defs.specs.Log.{Letter, Log}
 use Rattle.node_defs.specs.Rules.{Rules, in_force}
 use Rattle.node_defs.specs.Sent.{sent_of}
@@ -86,7 +86,7 @@ module _ (s : Setting) (say : ℕ → Txn → Outcome) where
   abbrev pub told_part : World → ℕ → List ℕ
   told_part w p =
       let done = told_ledger_of w p in
-      peer_lines s.rules.table p (reverse done) (state_of s.rules done) ++ halted_line s.rules.table None
+      peer_lines s.rules.table p (reverse done) (ledger_state s.rules done) ++ halted_line s.rules.table None
 
   abbrev pub told_parts : World → List ℕ → List ℕ
   told_parts w [] = []

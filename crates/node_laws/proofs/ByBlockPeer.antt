@@ -5,7 +5,7 @@ use Rattle.std.proofs.lemmas.Bool.{and_parts}
 use Rattle.std.proofs.lemmas.List.{get_or-map}
 use Rattle.known_defs.specs.Known.{no_outcome, no_txn, txn_at}
 use Rattle.node_defs.specs.Accepted.{accepted_after}
-use Rattle.node_defs.specs.Ledger.{completed, completed_with, closed, heard, ledger, split, state_of}
+use Rattle.node_defs.specs.Ledger.{completed, completed_with, with_entry, heard, ledger, split, ledger_state}
 use Rattle.node_defs.specs.Log.{Letter, Log}
 use Rattle.node_defs.specs.Position.{Standing, is_agent, is_ready, standings}
 use Rattle.node_defs.specs.Rules.{Rules, in_force}
@@ -54,10 +54,10 @@ module _ (s : Setting) (h : Premises s s.chain) (say : ℕ → Txn → Outcome) 
   told_opens me m = λ K. is_some (accepted_after r m (told_completed r say me m K) K)
 
   abbrev stand : ℕ → ℕ → Block → List Entry → Log → List Standing
-  stand me m b done J = standings (in_force r done) (record { me = me; n = suc m; txns = b.txns; base = state_of r done; opens = opens me m }) (length b.txns) J
+  stand me m b done J = standings (in_force r done) (record { me = me; n = suc m; txns = b.txns; base = ledger_state r done; opens = opens me m }) (length b.txns) J
 
   abbrev told_stand : ℕ → ℕ → Block → List Entry → Log → List Standing
-  told_stand me m b done J = standings (in_force (rules_at r say m) done) (record { me = me; n = suc m; txns = b.txns; base = state_of r done; opens = told_opens me m }) (length b.txns) J
+  told_stand me m b done J = standings (in_force (rules_at r say m) done) (record { me = me; n = suc m; txns = b.txns; base = ledger_state r done; opens = told_opens me m }) (length b.txns) J
 
   -- a position of the chain runs with what is told
   told_here : (me m t : ℕ) → m < length s.chain → t < length (block_at s.chain m).txns → (J : Log) → Heard J →
@@ -91,8 +91,8 @@ module _ (s : Setting) (h : Premises s s.chain) (say : ℕ → Txn → Outcome) 
       let P : Block → List Entry → Type 0 = λ c ds. told_stand me m c ds J ≡ stand me m c ds J in
       subst (λ c. P c (completed r me m L)) (sym a.1) (subst (P (block_at s.chain m)) (sym d) (same_on_chain me m below a.0 J sj))
 
-  closed_same : (b : Block) (xs ys : List Standing) (es fs : List Entry) → xs ≡ ys → es ≡ fs → closed b xs es ≡ closed b ys fs
-  closed_same b xs ys es fs p q = ap (λ zs. closed b zs es) p ∙ ap (closed b ys) q
+  closed_same : (b : Block) (xs ys : List Standing) (es fs : List Entry) → xs ≡ ys → es ≡ fs → with_entry b xs es ≡ with_entry b ys fs
+  closed_same b xs ys es fs p q = ap (λ zs. with_entry b zs es) p ∙ ap (with_entry b ys) q
 
   -- THE LEDGER
 
@@ -125,9 +125,9 @@ module _ (s : Setting) (h : Premises s s.chain) (say : ℕ → Txn → Outcome) 
       go (Some b) q =
           let done = completed r me m (e ∷ L) in
           let f = in_force r done in
-          ap (λ ds. sent_of (in_force (rules_at r say m) ds) (record { me = me; n = suc m; txns = b.txns; base = state_of r ds; opens = told_opens me m }) e L) (same_completed me m (e ∷ L) k)
-          ∙ sent_alike f (λ st x. say m x) me (suc m) b.txns (state_of r done) (opens me m) (told_opens me m) e L
-          (at_each (Alike f (λ st x. say m x) me (suc m) b.txns (state_of r done) (opens me m) (told_opens me m)) (λ J sj. same_at me m (same_completed me m) (e ∷ L) k b q J sj) (e ∷ L) k)
+          ap (λ ds. sent_of (in_force (rules_at r say m) ds) (record { me = me; n = suc m; txns = b.txns; base = ledger_state r ds; opens = told_opens me m }) e L) (same_completed me m (e ∷ L) k)
+          ∙ sent_alike f (λ st x. say m x) me (suc m) b.txns (ledger_state r done) (opens me m) (told_opens me m) e L
+          (at_each (Alike f (λ st x. say m x) me (suc m) b.txns (ledger_state r done) (opens me m) (told_opens me m)) (λ J sj. same_at me m (same_completed me m) (e ∷ L) k b q J sj) (e ∷ L) k)
 
   same_upto : (me n : ℕ) (e : Letter) (L : Log) → Heard (e ∷ L) → told_upto r say me n e L ≡ sent_upto r me n e L
   same_upto me zero e L k = refl

@@ -11,11 +11,11 @@ use Rattle.txn_types.specs.declared.txn.Outcome.{Outcome}
 use Rattle.txn_types.specs.declared.txn.Txn.{Txn}
 use Rattle.oxii_defs.specs.Chain.{no_hash}
 use Rattle.oxii_defs.specs.Lines.{Entry, blocks_line, peer_lines, tail_lines}
-use Rattle.node_defs.specs.Ledger.{halt, split, state_of}
+use Rattle.node_defs.specs.Ledger.{halt, split, ledger_state}
 use Rattle.node_defs.specs.Log.{Letter}
 use Rattle.node_defs.specs.Tame.{IsTame}
 use Rattle.node_defs.specs.Text.{halted_line, part_of, parts_of, text}
-use Rattle.node_defs.specs.World.{IsLawfulEvent, Setting, World, all_from, count_from, delivered, given, given_all, given_each, happens, idled, is_faulty, log_of, message_at, peers_of, said_by, start}
+use Rattle.node_defs.specs.World.{IsSaidByFaulty, Setting, World, all_from, count_from, delivered, given_to, given_all, given_each, happens, idled, is_faulty, log_of, message_at, peers_of, said_by, start}
 use Rattle.node_laws.proofs.Agree.{Sound}
 use Rattle.node_laws.proofs.AgreeSent.{all_at, hears_all, never_split}
 use Rattle.node_laws.proofs.AgreeWorld.{Premises, WorldSound, at_sound, each_sound, happens_sound, numbered_from, start_sound}
@@ -23,7 +23,7 @@ use Rattle.node_laws.proofs.ByBlock.{told_after, told_all, told_delivered, told_
 use Rattle.node_laws.proofs.ByBlockPeer.{IsToldByBlock, same_ledger, same_sent}
 use Rattle.node_laws.proofs.Few.{tame_all}
 use Rattle.node_laws.proofs.Same.{rules_local}
-use Rattle.node_laws.specs.Rows.{ComesTo, end_of, ledger_of, outcomes_of, state_at}
+use Rattle.node_laws.specs.Rows.{ComesTo, end_of, peer_ledger, outcomes_of, state_at}
 use Rattle.node_laws.specs.RowSettings.{Document, real_setting, world_after}
 use Rattle.node_laws.specs.Agreement.{IsSound}
 
@@ -54,7 +54,7 @@ module _ (s : Setting) (h : Premises s s.chain) (say : ℕ → Txn → Outcome) 
 
   -- BOTH WORLDS ARE ONE
 
-  given_same : (w : World) (p : ℕ) (x : Letter) → Good x → W w → given s w p x ≡ told_given s say w p x
+  given_same : (w : World) (p : ℕ) (x : Letter) → Good x → W w → given_to s w p x ≡ told_given s say w p x
   given_same w p x good a =
       ap (λ (cs : List Commit). record { pool = w.pool ++ map (said_by p) cs; idle = w.idle; logs = set w.logs p (x ∷ get_or w.logs p []) })
       (same_sent s h say told p x (get_or w.logs p []) (good, log_good w p a))
@@ -62,7 +62,7 @@ module _ (s : Setting) (h : Premises s s.chain) (say : ℕ → Txn → Outcome) 
   each_same : (x : Letter) → Good x → (ps : List ℕ) (w : World) → W w → given_each s x ps w ≡ told_each s say x ps w
   each_same x good [] w a = refl
   each_same x good (p ∷ ps) w a =
-      each_same x good ps (cond (is_faulty s (Peer p)) w (given s w p x)) (each_sound s s.chain h x good (p ∷ []) w a)
+      each_same x good ps (cond (is_faulty s (Peer p)) w (given_to s w p x)) (each_sound s s.chain h x good (p ∷ []) w a)
       ∙ ap (λ u. told_each s say x ps (cond (is_faulty s (Peer p)) w u)) (given_same w p x good a)
 
   all_same : (turns m : ℕ) (w : World) → W w → all_from s turns m w ≡ told_all s say turns m w
@@ -87,7 +87,7 @@ module _ (s : Setting) (h : Premises s s.chain) (say : ℕ → Txn → Outcome) 
       one None e = refl
       one (Some x) e = ap (cond (is_faulty s (Peer p)) (idled w)) (given_same w p x (at_sound s s.chain w m x e a) a)
 
-  after_same : (turns : ℕ) (es : List Event) (w : World) → AllByRecursion (IsLawfulEvent s) es → W w → world_after s turns w es ≡ told_after s say turns w es
+  after_same : (turns : ℕ) (es : List Event) (w : World) → AllByRecursion (IsSaidByFaulty s) es → W w → world_after s turns w es ≡ told_after s say turns w es
   after_same turns [] w l a = refl
   after_same turns (e ∷ es) w l a =
       go (happens s turns w e) refl (λ u b. after_same turns es u l.1 b)
@@ -98,7 +98,7 @@ module _ (s : Setting) (h : Premises s s.chain) (say : ℕ → Txn → Outcome) 
       go None k more = refl
       go (Some u) k more = more u (happens_sound s s.chain h turns w u e l.0 k a)
 
-  after_good : (turns : ℕ) (es : List Event) (w u : World) → AllByRecursion (IsLawfulEvent s) es → world_after s turns w es ≡ Some u → W w → W u
+  after_good : (turns : ℕ) (es : List Event) (w u : World) → AllByRecursion (IsSaidByFaulty s) es → world_after s turns w es ≡ Some u → W w → W u
   after_good turns [] w u l q a = subst W (same_Some w u q) a
   after_good turns (e ∷ es) w u l q a = go (happens s turns w e) refl q (λ v k b. after_good turns es v u l.1 k b)
     where
@@ -108,9 +108,9 @@ module _ (s : Setting) (h : Premises s s.chain) (say : ℕ → Txn → Outcome) 
 
   -- THE END
 
-  module _ (es : List Event) (lawful : AllByRecursion (IsLawfulEvent s) es) where
+  module _ (es : List Event) (said : AllByRecursion (IsSaidByFaulty s) es) where
     after_all : world_after s 9 (start s) es ≡ told_after s say 9 (start s) es
-    after_all = after_same 9 es (start s) lawful (start_sound s)
+    after_all = after_same 9 es (start s) said (start_sound s)
 
     same_end : end_of s es ≡ told_end s say es
     same_end = ap (λ o. unwrap_or o (start s)) after_all
@@ -120,9 +120,9 @@ module _ (s : Setting) (h : Premises s s.chain) (say : ℕ → Txn → Outcome) 
       where
         go : (o : Option World) → world_after s 9 (start s) es ≡ o → W (unwrap_or o (start s))
         go None k = start_sound s
-        go (Some u) k = after_good 9 es (start s) u lawful k (start_sound s)
+        go (Some u) k = after_good 9 es (start s) u said k (start_sound s)
 
-    ledger_at : (p : ℕ) → ledger_of s (end_of s es) p ≡ told_ledger_of s say (told_end s say es) p
+    ledger_at : (p : ℕ) → peer_ledger s (end_of s es) p ≡ told_ledger_of s say (told_end s say es) p
     ledger_at p = same_ledger s h say told p (log_of (end_of s es) p) (log_good (end_of s es) p end_good) ∙ ap (λ w. told_ledger_of s say w p) same_end
 
     ledgers_at : (ps : List ℕ) → map (outcomes_of s (end_of s es)) ps ≡ map (told_outcomes_of s say (told_end s say es)) ps
@@ -137,8 +137,8 @@ module _ (s : Setting) (h : Premises s s.chain) (say : ℕ → Txn → Outcome) 
       ledgers = ledgers_at peers ∙ c.ledgers;
     }
 
-    pub states : (p : ℕ) → state_at s (end_of s es) p ≡ state_of s.rules (told_ledger_of s say (told_end s say es) p)
-    states p = ap (state_of s.rules) (ledger_at p)
+    pub states : (p : ℕ) → state_at s (end_of s es) p ≡ ledger_state s.rules (told_ledger_of s say (told_end s say es) p)
+    states p = ap (ledger_state s.rules) (ledger_at p)
 
     halts : (p : ℕ) → halt s.rules p (log_of (end_of s es) p) ≡ None
     halts p =
@@ -148,8 +148,8 @@ module _ (s : Setting) (h : Premises s s.chain) (say : ℕ → Txn → Outcome) 
 
     part_same : (p : ℕ) → part_of s p (log_of (end_of s es) p) ≡ told_part s say (told_end s say es) p
     part_same p =
-        ap (λ k. peer_lines s.rules.table p (reverse (ledger_of s (end_of s es) p)) (state_at s (end_of s es) p) ++ halted_line s.rules.table k) (halts p)
-        ∙ ap (λ done. peer_lines s.rules.table p (reverse done) (state_of s.rules done) ++ halted_line s.rules.table None) (ledger_at p)
+        ap (λ k. peer_lines s.rules.table p (reverse (peer_ledger s (end_of s es) p)) (state_at s (end_of s es) p) ++ halted_line s.rules.table k) (halts p)
+        ∙ ap (λ done. peer_lines s.rules.table p (reverse done) (ledger_state s.rules done) ++ halted_line s.rules.table None) (ledger_at p)
 
     parts_same : (ps : List ℕ) → parts_of s (end_of s es) ps ≡ told_parts s say (told_end s say es) ps
     parts_same [] = refl

@@ -8,7 +8,7 @@ use Rattle.txn_types.specs.declared.event.Event.TheVariants as event
 use Rattle.node_defs.specs.Log.{Letter, Log}
 use Rattle.node_defs.specs.Rules.{IsLocal, Rules}
 use Rattle.node_defs.specs.Sent.{sent}
-use Rattle.node_defs.specs.World.{Happens, LeadTo, Setting, World, all_from, count_from, delivered, first_pool, given, given_all, given_each, idled, is_faulty, message_at, peers_of, said_by, setting_of, start}
+use Rattle.node_defs.specs.World.{Happens, LeadTo, Setting, World, all_from, count_from, delivered, first_pool, given_to, given_all, given_each, idled, is_faulty, message_at, peers_of, said_by, setting_of, start}
 use Rattle.node_laws.proofs.Counting.{Has}
 use Rattle.node_laws.proofs.Run.{same_world}
 use Rattle.node_laws.proofs.Same.{rules_local}
@@ -48,7 +48,7 @@ log_more : (pool : List Letter) (x : Letter) (L : Log) → Has x pool → IsOf p
 log_more pool x L h sub y (inl e) = subst (λ (z : Letter). Has z pool) (sym e) h
 log_more pool x L h sub y (inr k) = sub y k
 
-pub given_fed : (s : Setting) (w : World) (p : ℕ) (x : Letter) → Has x w.pool → IsFed s w → IsFed s (given s w p x)
+pub given_fed : (s : Setting) (w : World) (p : ℕ) (x : Letter) → Has x w.pool → IsFed s w → IsFed s (given_to s w p x)
 given_fed s w p x h fed =
     let L = x ∷ get_or w.logs p [] in
     let more = map (said_by p) (sent s.rules p L) in
@@ -108,7 +108,7 @@ pub record IsFrom (s : Setting) (w u : World) : Type 0 where
 from_itself : (s : Setting) (w : World) → IsFed s w → IsFrom s w w
 from_itself s w fed = record { fed = fed; sent = refl; carried = refl; more = λ x h. h }
 
-given_from : (s : Setting) (w u : World) (p : ℕ) (x : Letter) → p < peers_of s → Has x u.pool → IsFrom s w u → IsFrom s w (given s u p x)
+given_from : (s : Setting) (w u : World) (p : ℕ) (x : Letter) → p < peers_of s → Has x u.pool → IsFrom s w u → IsFrom s w (given_to s u p x)
 given_from s w u p x l h from =
     let L = x ∷ get_or u.logs p [] in
     let more = map (said_by p) (sent s.rules p L) in
@@ -126,9 +126,9 @@ given_from s w u p x l h from =
 
 each_from : (s : Setting) (w u : World) (x : Letter) → Has x w.pool → (i n : ℕ) → i + n ≤ peers_of s → IsFrom s w u → IsFrom s w (given_each s x (count_from i n) u)
 each_from s w u x h i zero l from = from
-each_from s w u x h i (suc n) l from = each_from s w (cond (is_faulty s (Peer i)) u (given s u i x)) x h (suc i) n (omega arith) (one (is_faulty s (Peer i)))
+each_from s w u x h i (suc n) l from = each_from s w (cond (is_faulty s (Peer i)) u (given_to s u i x)) x h (suc i) n (omega arith) (one (is_faulty s (Peer i)))
   where
-    one : (b : Bool) → IsFrom s w (cond b u (given s u i x))
+    one : (b : Bool) → IsFrom s w (cond b u (given_to s u i x))
     one true = from
     one false = given_from s w u i x (omega arith) (from.more x h) from
 
@@ -177,7 +177,7 @@ next s l w (event.Deliver m p) fed = (delivered s w p (message_at w m), (0, refl
   where
     one : (o : Option Letter) → message_at w m ≡ o → IsFed s (delivered s w p o)
     one None e = record { logs = fed.logs; count = fed.count }
-    one (Some x) e = elim (is_faulty s (Peer p)) as (λ b. IsFed s (cond b (idled w) (given s w p x))) [ true ↦ record { logs = fed.logs; count = fed.count } | false ↦ given_fed s w p x (message_has w m x e).0 fed ]
+    one (Some x) e = elim (is_faulty s (Peer p)) as (λ b. IsFed s (cond b (idled w) (given_to s w p x))) [ true ↦ record { logs = fed.logs; count = fed.count } | false ↦ given_fed s w p x (message_has w m x e).0 fed ]
 
 all_lead : (s : Setting) → IsLocal s.rules → (es : List Event) (w : World) → IsFed s w → (u : World) × LeadTo s w es u × IsFed s u
 all_lead s l [] w fed = (w, refl, fed)

@@ -6,7 +6,7 @@ use Rattle.std.proofs.lemmas.Bool.{true≢false, false≢true, eqb-true, eq-eqb,
 use Rattle.std.proofs.lemmas.Bool.Decides.{nat_tests}
 use Rattle.std.proofs.lemmas.List.{length-append}
 use Rattle.txn_types.specs.declared.stream.Piece.TheVariants as piece
-use Rattle.node_defs.specs.Cutting.{Admitted, EndRightly, EndsBefore, HasNoMark, IsAlone, IsCall, IsCutting, IsPart, bytes_in, BeginsWithConfig, last_marked, txns_in, txns_in_piece}
+use Rattle.node_defs.specs.Cutting.{AdmittedItem, EndRightly, EndsBefore, HasNoMark, IsAlone, IsCall, IsCutting, IsPart, bytes_in, BeginsWithConfig, last_marked, txns_in, txns_in_piece}
 use Rattle.node_laws.proofs.Cuttings.{count_calls}
 use Rattle.node_laws.proofs.Ends.{ends}
 use Rattle.oxii_defs.specs.BlockBytes.{txn_bytes}
@@ -19,11 +19,11 @@ is_config : Piece → Bool
 is_config (piece.Call t) = false
 is_config (piece.Config c) = true
 
-starts_config : List Admitted → Bool
+starts_config : List AdmittedItem → Bool
 starts_config [] = false
 starts_config (x ∷ rest) = is_config x.piece
 
-call_of : (x : Admitted) → is_config x.piece ≡ false → IsCall x
+call_of : (x : AdmittedItem) → is_config x.piece ≡ false → IsCall x
 unfolding is_config
 call_of x e = go x.piece refl e
   where
@@ -31,7 +31,7 @@ call_of x e = go x.piece refl e
     go (piece.Call t) q k = (t, q)
     go (piece.Config c) q k = absurd (true≢false k)
 
-config_of : (x : Admitted) → is_config x.piece ≡ true → (c : Config) × (x.piece ≡ piece.Config c)
+config_of : (x : AdmittedItem) → is_config x.piece ≡ true → (c : Config) × (x.piece ≡ piece.Config c)
 unfolding is_config
 config_of x e = go x.piece refl e
   where
@@ -39,21 +39,21 @@ config_of x e = go x.piece refl e
     go (piece.Call t) q k = absurd (false≢true k)
     go (piece.Config c) q k = (c, q)
 
-starts_with : (xs : List Admitted) → starts_config xs ≡ true → BeginsWithConfig xs
+starts_with : (xs : List AdmittedItem) → starts_config xs ≡ true → BeginsWithConfig xs
 unfolding starts_config
 starts_with [] e = absurd (false≢true e)
 starts_with (x ∷ rest) e = config_of x e
 
 module _ (table : Table) (limits : CutLimits) where
   -- a list has to end before an item
-  abbrev closes : List Admitted → Admitted → Bool
+  abbrev closes : List AdmittedItem → AdmittedItem → Bool
   closes xs x = starts_config xs || ((length xs == limits.txns) || (nat_lt limits.bytes (bytes_in table (xs ++ x ∷ [])) || (last_marked xs || is_config x.piece)))
 
-  abbrev cut_from : List Admitted → List Admitted → List (List Admitted)
+  abbrev cut_from : List AdmittedItem → List AdmittedItem → List (List AdmittedItem)
   cut_from xs [] = xs ∷ []
   cut_from xs (x ∷ rest) = if closes xs x then xs ∷ cut_from (x ∷ []) rest else cut_from (xs ++ x ∷ []) rest
 
-  why : (xs : List Admitted) (x : Admitted) (w : List Admitted) → closes xs x ≡ true → EndsBefore table limits xs (x ∷ w)
+  why : (xs : List AdmittedItem) (x : AdmittedItem) (w : List AdmittedItem) → closes xs x ≡ true → EndsBefore table limits xs (x ∷ w)
   why xs x w h = one (or_cases _ _ h)
     where
       four : (last_marked xs ≡ true) ⊎ (is_config x.piece ≡ true) → EndsBefore table limits xs (x ∷ w)
@@ -73,27 +73,27 @@ module _ (table : Table) (limits : CutLimits) where
       one (inr k) = two (or_cases _ _ k)
 
   -- a list of calls, longer by one
-  calls_push : (xs : List Admitted) (x : Admitted) → AllByRecursion IsCall xs → IsCall x → AllByRecursion IsCall (xs ++ x ∷ [])
+  calls_push : (xs : List AdmittedItem) (x : AdmittedItem) → AllByRecursion IsCall xs → IsCall x → AllByRecursion IsCall (xs ++ x ∷ [])
   calls_push [] x a h = (h, tt)
   calls_push (y ∷ ys) x a h = (a.0, calls_push ys x a.1 h)
 
-  all_calls : (xs : List Admitted) → starts_config xs ≡ false → IsAlone xs → AllByRecursion IsCall xs
+  all_calls : (xs : List AdmittedItem) → starts_config xs ≡ false → IsAlone xs → AllByRecursion IsCall xs
   unfolding starts_config
   all_calls [] e a = tt
   all_calls (x ∷ []) e a = (call_of x e, tt)
   all_calls (x ∷ y ∷ rest) e a = a
 
-  alone_push : (xs : List Admitted) (x : Admitted) → 0 < length xs → AllByRecursion IsCall (xs ++ x ∷ []) → IsAlone (xs ++ x ∷ [])
+  alone_push : (xs : List AdmittedItem) (x : AdmittedItem) → 0 < length xs → AllByRecursion IsCall (xs ++ x ∷ []) → IsAlone (xs ++ x ∷ [])
   alone_push [] x h a = tt
   alone_push (y ∷ []) x h a = a
   alone_push (y ∷ z ∷ rest) x h a = a
 
-  unmarked_push : (xs : List Admitted) (x : Admitted) → last_marked xs ≡ false → HasNoMark xs → HasNoMark (xs ++ x ∷ [])
+  unmarked_push : (xs : List AdmittedItem) (x : AdmittedItem) → last_marked xs ≡ false → HasNoMark xs → HasNoMark (xs ++ x ∷ [])
   unmarked_push [] x e m = tt
   unmarked_push (y ∷ []) x e m = (e, tt)
   unmarked_push (y ∷ z ∷ rest) x e m = (m.0, unmarked_push (z ∷ rest) x e m.1)
 
-  part_push : (xs : List Admitted) (x : Admitted) → IsPart table limits xs → closes xs x ≡ false → IsPart table limits (xs ++ x ∷ [])
+  part_push : (xs : List AdmittedItem) (x : AdmittedItem) → IsPart table limits xs → closes xs x ≡ false → IsPart table limits (xs ++ x ∷ [])
   part_push xs x part h =
       let p1 = or_parts (starts_config xs) _ h in
       let p2 = or_parts (length xs == limits.txns) _ p1.1 in
@@ -115,10 +115,10 @@ module _ (table : Table) (limits : CutLimits) where
       not_equal : (a b c : ℕ) → (a ≡ b → ⊥) → a ≤ b → c ≡ suc a → c ≤ b
       not_equal a b c other le e = grind (arith, other)
 
-  abbrev Fits : List Admitted → Type 0
+  abbrev Fits : List AdmittedItem → Type 0
   Fits items = AllByRecursion (λ t. length (txn_bytes table t) ≤ limits.bytes) (txns_in items)
 
-  first_part : (x : Admitted) → 0 < limits.txns → Fits (x ∷ []) → IsPart table limits (x ∷ [])
+  first_part : (x : AdmittedItem) → 0 < limits.txns → Fits (x ∷ []) → IsPart table limits (x ∷ [])
   first_part x one fits = record { filled = omega arith; alone = tt; few = few x.piece; small = small x.piece fits; unmarked = tt }
     where
       few : (p : Piece) → length (txns_in_piece p ++ []) ≤ limits.txns
@@ -129,7 +129,7 @@ module _ (table : Table) (limits : CutLimits) where
       small (piece.Call t) f = let e = ap length (append-nil (txn_bytes table t)) in omega (arith, e, f.0)
       small (piece.Config c) f = omega arith
 
-  fits_first : (x : Admitted) (rest : List Admitted) → Fits (x ∷ rest) → Fits (x ∷ []) × Fits rest
+  fits_first : (x : AdmittedItem) (rest : List AdmittedItem) → Fits (x ∷ rest) → Fits (x ∷ []) × Fits rest
   fits_first x rest fits = go x.piece fits
     where
       go : (p : Piece) → AllByRecursion (λ t. length (txn_bytes table t) ≤ limits.bytes) (txns_in_piece p ++ txns_in rest) → AllByRecursion (λ t. length (txn_bytes table t) ≤ limits.bytes) (txns_in_piece p ++ []) × Fits rest
@@ -137,18 +137,18 @@ module _ (table : Table) (limits : CutLimits) where
       go (piece.Config c) f = (tt, f)
 
   -- a cutting of what stands in the open list and of the rest, that begins with the open list
-  record IsCutFrom (xs rest : List Admitted) (lists : List (List Admitted)) : Type 0 where
+  record IsCutFrom (xs rest : List AdmittedItem) (lists : List (List AdmittedItem)) : Type 0 where
     whole : flat_map (λ l. l) lists ≡ xs ++ rest
     parts : AllByRecursion (IsPart table limits) lists
     ends : EndRightly table limits lists
-    next : List Admitted
-    more : List (List Admitted)
+    next : List AdmittedItem
+    more : List (List AdmittedItem)
     begins : lists ≡ (xs ++ next) ∷ more
 
-  ends_after : (xs : List Admitted) (x : Admitted) (lists more : List (List Admitted)) (next : List Admitted) → lists ≡ (x ∷ next) ∷ more → closes xs x ≡ true → EndRightly table limits lists → EndRightly table limits (xs ∷ lists)
+  ends_after : (xs : List AdmittedItem) (x : AdmittedItem) (lists more : List (List AdmittedItem)) (next : List AdmittedItem) → lists ≡ (x ∷ next) ∷ more → closes xs x ≡ true → EndRightly table limits lists → EndRightly table limits (xs ∷ lists)
   ends_after xs x lists more next e h ends = subst (λ l. EndRightly table limits l → EndRightly table limits (xs ∷ l)) (sym e) (λ k. (why xs x next h, k)) ends
 
-  cut_well : (rest : List Admitted) (xs : List Admitted) → 0 < limits.txns → IsPart table limits xs → Fits rest → IsCutFrom xs rest (cut_from xs rest)
+  cut_well : (rest : List AdmittedItem) (xs : List AdmittedItem) → 0 < limits.txns → IsPart table limits xs → Fits rest → IsCutFrom xs rest (cut_from xs rest)
   cut_well [] xs one part fits = record { whole = refl; parts = (part, tt); ends = tt; next = []; more = []; begins = ap (λ l. l ∷ []) (sym (append-nil xs)) }
   cut_well (x ∷ rest) xs one part fits =
       let f = fits_first x rest fits in
@@ -175,7 +175,7 @@ module _ (table : Table) (limits : CutLimits) where
             begins = r.begins ∙ ap (λ l. l ∷ r.more) (append_assoc xs (x ∷ []) r.next);
           }
 
-  pub cut_all : (items : List Admitted) → 0 < limits.txns → Fits items → (lists : List (List Admitted)) × IsCutting table limits items lists
+  pub cut_all : (items : List AdmittedItem) → 0 < limits.txns → Fits items → (lists : List (List AdmittedItem)) × IsCutting table limits items lists
   cut_all [] one fits = ([], record { whole = refl; parts = tt; ends = tt })
   cut_all (x ∷ rest) one fits =
       let f = fits_first x rest fits in

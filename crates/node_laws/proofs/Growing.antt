@@ -9,7 +9,7 @@ use Rattle.std.proofs.lemmas.Option.{none-some, same_Some}
 use Rattle.std.proofs.lemmas.List.{length-append, nil_from_length}
 use Rattle.known_defs.specs.Known.{knows_all, no_outcome, txn_at}
 use Rattle.node_defs.specs.Accepted.{accepted, accepted_after, tip}
-use Rattle.node_defs.specs.Ledger.{agreed_outcome, closed, completed, completed_with, differs, is_agreed, work_on}
+use Rattle.node_defs.specs.Ledger.{agreed_outcome, with_entry, completed, completed_with, differs, is_agreed, work_on}
 use Rattle.node_defs.specs.Log.{Letter, Log, newblock_in}
 use Rattle.node_defs.specs.Position.{Standing, Work, agreed, ballots, is_agent, is_ready, own_outcome, standing, standings}
 use Rattle.node_defs.specs.Rules.{IsLocal, Rules, in_force}
@@ -255,7 +255,7 @@ stays_open rules me m g K b e L h = one (accepted_after rules m (completed rules
     one None q k = absurd (false≢true k)
     one (Some c) q k = ap is_some (after_keeps rules me m g e L c q).0
 
-closed_grows : (b : Block) (xs ys : List Standing) (done : List Entry) → (list_all is_agreed xs ≡ true → (list_all is_agreed ys ≡ true) × (map agreed_outcome xs ≡ map agreed_outcome ys)) → Grew (closed b xs done) (closed b ys done)
+closed_grows : (b : Block) (xs ys : List Standing) (done : List Entry) → (list_all is_agreed xs ≡ true → (list_all is_agreed ys ≡ true) × (map agreed_outcome xs ≡ map agreed_outcome ys)) → Grew (with_entry b xs done) (with_entry b ys done)
 closed_grows b xs ys done h = one (list_all is_agreed xs) refl (list_all is_agreed ys) refl
   where
     one : (c : Bool) → list_all is_agreed xs ≡ c → (d : Bool) → list_all is_agreed ys ≡ d → Grew (cond c (record { block = b; outcomes = map agreed_outcome xs } ∷ done) done) (cond d (record { block = b; outcomes = map agreed_outcome ys } ∷ done) done)
@@ -264,7 +264,7 @@ closed_grows b xs ys done h = one (list_all is_agreed xs) refl (list_all is_agre
     one false p true q = record { new = record { block = b; outcomes = map agreed_outcome ys } ∷ []; is = refl }
     one false p false q = record { new = []; is = refl }
 
-closed_more : (b : Block) (all : List Standing) (xs done : List Entry) → Grew xs done → Grew xs (closed b all done)
+closed_more : (b : Block) (all : List Standing) (xs done : List Entry) → Grew xs done → Grew xs (with_entry b all done)
 closed_more b all xs done g = elim (list_all is_agreed all) as (λ t. Grew xs (cond t (record { block = b; outcomes = map agreed_outcome all } ∷ done) done)) [ true ↦ record { new = record { block = b; outcomes = map agreed_outcome all } ∷ g.new; is = ap (λ zs. record { block = b; outcomes = map agreed_outcome all } ∷ zs) g.is } | false ↦ g ]
 
 pub ledger_grows : (rules : Rules) → IsLocal rules → (me m : ℕ) → LedgerGrows rules me m

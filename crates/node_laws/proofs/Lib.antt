@@ -8,6 +8,7 @@ pub mod Conflicts
 pub mod Cuttings
 pub mod Decide
 pub mod Few
+pub mod Admissions
 pub mod Agree
 pub mod AgreeSent
 pub mod AgreeWorld

@@ -4,7 +4,7 @@ use Rattle.std.proofs.Common.{sym, ◌∙◌, ap, subst}
 use Rattle.std.proofs.lemmas.Bool.{true≢false}
 use Rattle.node_laws.proofs.Told.{AtEach, IsTold, Fine, same_standings}
 use Rattle.node_defs.specs.Accepted.{accepted_after}
-use Rattle.node_defs.specs.Ledger.{Halt, closed, completed, completed_with, first_halt, halt, halt_in, heard, is_split, ledger, split, state_of, work_on}
+use Rattle.node_defs.specs.Ledger.{Halt, with_entry, completed, completed_with, first_halt, halt, halt_in, heard, is_split, ledger, split, ledger_state, work_on}
 use Rattle.node_defs.specs.Log.{Letter, Log}
 use Rattle.node_defs.specs.Position.{Standing, standings}
 use Rattle.node_defs.specs.Rules.{Rules, in_force, rules_of}
@@ -29,7 +29,7 @@ module _ (table : Table) (genesis : State) (say : Txn → Outcome) (S : Log → 
   pub record IsSaidAlong : Type 0 where
     pub shorter : (e : Letter) (L : Log) → S (e ∷ L) → S L
     pub told : (me m t : ℕ) (opens other : Log → Bool) (L : Log) (b : Block) → S L → accepted_at say_rules me m L ≡ Some b → t < length b.txns → (J : Log) → S J →
-        IsTold (in_force say_rules (completed say_rules me m L)) (outcome_in table) me (suc m) b.txns (state_of say_rules (completed say_rules me m L)) opens other t J
+        IsTold (in_force say_rules (completed say_rules me m L)) (outcome_in table) me (suc m) b.txns (ledger_state say_rules (completed say_rules me m L)) opens other t J
 
   module _ (h : IsSaidAlong) where
     pub at_each : (P : Log → Type 0) → ((L : Log) → S L → P L) → (L : Log) → S L → AtEach P L
@@ -47,21 +47,21 @@ module _ (table : Table) (genesis : State) (say : Txn → Outcome) (S : Log → 
 
     -- a block in work, with what is in force behind these completed blocks
     abbrev pub said_at : ℕ → ℕ → Block → List Entry → Log → List Standing
-    said_at me m b done J = standings (in_force say_rules done) (record { me = me; n = suc m; txns = b.txns; base = state_of say_rules done; opens = opens_say me m }) (length b.txns) J
+    said_at me m b done J = standings (in_force say_rules done) (record { me = me; n = suc m; txns = b.txns; base = ledger_state say_rules done; opens = opens_say me m }) (length b.txns) J
 
     abbrev pub real_at : ℕ → ℕ → Block → List Entry → Log → List Standing
-    real_at me m b done J = standings (in_force real_rules done) (record { me = me; n = suc m; txns = b.txns; base = state_of real_rules done; opens = opens_real me m }) (length b.txns) J
+    real_at me m b done J = standings (in_force real_rules done) (record { me = me; n = suc m; txns = b.txns; base = ledger_state real_rules done; opens = opens_real me m }) (length b.txns) J
 
     pub same_at : (me m : ℕ) → SameBelow me m → (L : Log) → S L → (b : Block) → accepted_at say_rules me m L ≡ Some b → (J : Log) → S J →
         real_at me m b (completed say_rules me m L) J ≡ said_at me m b (completed say_rules me m L) J
     same_at me m below L s b q J sj =
         let done = completed say_rules me m L in
-        same_standings (in_force say_rules done) (outcome_in table) me (suc m) b.txns (state_of say_rules done) (opens_say me m) (opens_real me m) (length b.txns) J
-        (at_each (Fine (in_force say_rules done) (outcome_in table) me (suc m) b.txns (state_of say_rules done) (opens_say me m) (opens_real me m) (length b.txns))
+        same_standings (in_force say_rules done) (outcome_in table) me (suc m) b.txns (ledger_state say_rules done) (opens_say me m) (opens_real me m) (length b.txns) J
+        (at_each (Fine (in_force say_rules done) (outcome_in table) me (suc m) b.txns (ledger_state say_rules done) (opens_say me m) (opens_real me m) (length b.txns))
         (λ K k. record { open_alike = ap (λ ds. is_some (accepted_after say_rules m ds K)) (below K k); all = λ i l. h.told me m i (opens_say me m) (opens_real me m) L b s q l K k }) J sj)
 
-    closed_same : (b : Block) (xs ys : List Standing) (es fs : List Entry) → xs ≡ ys → es ≡ fs → closed b xs es ≡ closed b ys fs
-    closed_same b xs ys es fs p q = ap (λ zs. closed b zs es) p ∙ ap (closed b ys) q
+    closed_same : (b : Block) (xs ys : List Standing) (es fs : List Entry) → xs ≡ ys → es ≡ fs → with_entry b xs es ≡ with_entry b ys fs
+    closed_same b xs ys es fs p q = ap (λ zs. with_entry b zs es) p ∙ ap (with_entry b ys) q
 
     pub same_completed : (me m : ℕ) → SameBelow me m
     same_completed me zero L s = refl

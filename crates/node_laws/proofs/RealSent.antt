@@ -4,11 +4,11 @@ use Rattle.std.proofs.Common.{◌∙◌, ap}
 use Rattle.node_laws.proofs.Told.{AtEach, at_last, with_outcome}
 use Rattle.node_laws.proofs.Real.{IsSaidAlong, at_each, opens_say, opens_real, same_at, same_completed, same_split, same_heard, heard_kept}
 use Rattle.node_defs.specs.Accepted.{accepted_after}
-use Rattle.node_defs.specs.Ledger.{completed, heard, split, state_of}
+use Rattle.node_defs.specs.Ledger.{completed, heard, split, ledger_state}
 use Rattle.node_defs.specs.Log.{Letter, Log}
 use Rattle.node_defs.specs.Position.{Work, standings}
 use Rattle.node_defs.specs.Rules.{Rules, in_force, rules_of}
-use Rattle.node_defs.specs.Sent.{batches, commit_of, did_run, is_new, newly_ran, nothing, run_order, sent, sent_in, sent_of, sent_upto, sent_with}
+use Rattle.node_defs.specs.Sent.{batches, commit_of, did_run, is_due, newly_ran, no_standing, run_order, sent, sent_in, sent_of, sent_upto, sent_with}
 use Rattle.node_laws.specs.Growth.{accepted_at}
 use Rattle.node_laws.specs.RowSettings.{told_rules}
 use Rattle.oxii_defs.specs.Outcomes.{outcome_in}
@@ -35,7 +35,7 @@ module _ (r : Rules) (f : State → Txn → Outcome) (me n : ℕ) (txns : List T
   Alike L = standings q v (length txns) L ≡ standings r w (length txns) L
 
   ran_alike : (t : ℕ) (L : Log) → Alike L → did_run q v t L ≡ did_run r w t L
-  ran_alike t L h = ap (λ all. (get_or all t nothing).ran) h
+  ran_alike t L h = ap (λ all. (get_or all t no_standing).ran) h
 
   newly_alike : (e : Letter) (L : Log) (k : ℕ) → Alike (e ∷ L) → Alike L → newly_ran q v e L k ≡ newly_ran r w e L k
   newly_alike e L zero a b = refl
@@ -55,7 +55,7 @@ module _ (r : Rules) (f : State → Txn → Outcome) (me n : ℕ) (txns : List T
       last [] k = k
       last (d ∷ M) k = k.0
 
-  new_alike : (e : Letter) (L : Log) (b : List ℕ) → Alike L → is_new q v e L b ≡ is_new r w e L b
+  new_alike : (e : Letter) (L : Log) (b : List ℕ) → Alike L → is_due q v e L b ≡ is_due r w e L b
   new_alike e L [] h = refl
   new_alike e L (t ∷ before) h = ap not (ran_alike t L h)
 
@@ -69,9 +69,9 @@ module _ (r : Rules) (f : State → Txn → Outcome) (me n : ℕ) (txns : List T
   pub sent_alike : (e : Letter) (L : Log) → AtEach Alike (e ∷ L) → sent_of q v e L ≡ sent_of r w e L
   sent_alike e L h =
       let last : Alike L = at_last Alike L h.1 in
-      ap (λ all. map (commit_of v all) (reverse (filter (is_new q v e L) (batches q v (run_order q v (e ∷ L)))))) h.0
-      ∙ ap (λ bs. map (commit_of w (standings r w (length txns) (e ∷ L))) (reverse (filter (is_new q v e L) (batches r w bs)))) (order_alike (e ∷ L) h)
-      ∙ ap (λ bs. map (commit_of w (standings r w (length txns) (e ∷ L))) (reverse bs)) (filter_alike (is_new q v e L) (is_new r w e L) (batches r w (run_order r w (e ∷ L))) (λ b. new_alike e L b last))
+      ap (λ all. map (commit_of v all) (reverse (filter (is_due q v e L) (batches q v (run_order q v (e ∷ L)))))) h.0
+      ∙ ap (λ bs. map (commit_of w (standings r w (length txns) (e ∷ L))) (reverse (filter (is_due q v e L) (batches r w bs)))) (order_alike (e ∷ L) h)
+      ∙ ap (λ bs. map (commit_of w (standings r w (length txns) (e ∷ L))) (reverse bs)) (filter_alike (is_due q v e L) (is_due r w e L) (batches r w (run_order r w (e ∷ L))) (λ b. new_alike e L b last))
 
 module _ (table : Table) (genesis : State) (say : Txn → Outcome) (S : Log → Type 0) (h : IsSaidAlong table genesis say S) where
   abbrev R : Rules
@@ -98,9 +98,9 @@ module _ (table : Table) (genesis : State) (say : Txn → Outcome) (S : Log → 
           let r = in_force R done in
           let opens = opens_say table genesis say S h me m in
           let other = opens_real table genesis say S h me m in
-          ap (λ ds. sent_of (in_force Q ds) (record { me = me; n = suc m; txns = b.txns; base = state_of Q ds; opens = other }) e L) (below me m (e ∷ L) s)
-          ∙ sent_alike r (outcome_in table) me (suc m) b.txns (state_of R done) opens other e L
-          (at_each table genesis say S h (Alike r (outcome_in table) me (suc m) b.txns (state_of R done) opens other) (λ J sj. same_at table genesis say S h me m (below me m) (e ∷ L) s b k J sj) (e ∷ L) s)
+          ap (λ ds. sent_of (in_force Q ds) (record { me = me; n = suc m; txns = b.txns; base = ledger_state Q ds; opens = other }) e L) (below me m (e ∷ L) s)
+          ∙ sent_alike r (outcome_in table) me (suc m) b.txns (ledger_state R done) opens other e L
+          (at_each table genesis say S h (Alike r (outcome_in table) me (suc m) b.txns (ledger_state R done) opens other) (λ J sj. same_at table genesis say S h me m (below me m) (e ∷ L) s b k J sj) (e ∷ L) s)
 
   sent_upto_same : (me n : ℕ) (e : Letter) (L : Log) → S (e ∷ L) → sent_upto Q me n e L ≡ sent_upto R me n e L
   sent_upto_same me zero e L s = refl

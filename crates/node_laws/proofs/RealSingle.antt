@@ -11,7 +11,7 @@ use Rattle.node_laws.proofs.Real.{IsSaidAlong}
 use Rattle.node_laws.proofs.RealWorld.{IsKept, is_real}
 use Rattle.node_laws.proofs.AgreeWorld.{all_of as all_of_chain}
 use Rattle.node_defs.specs.Accepted.{accepted, tip}
-use Rattle.node_defs.specs.Ledger.{completed, state_of}
+use Rattle.node_defs.specs.Ledger.{completed, ledger_state}
 use Rattle.node_defs.specs.Log.{Log}
 use Rattle.node_defs.specs.Rules.{Rules, in_force}
 use Rattle.node_defs.specs.Sent.{sent}
@@ -80,7 +80,7 @@ module _ (table : Table) (genesis : State) (say : Txn → Outcome) (txn : Txn) (
   at_first me (suc t) opens other J l = absurd (omega arith)
 
   told_at : (me m t : ℕ) (opens other : Log → Bool) (L J : Log) (b : Block) → m < 1 → b ≡ block_at chain m → t < length b.txns →
-      IsTold (in_force r (completed r me m L)) (outcome_in table) me (suc m) b.txns (state_of r (completed r me m L)) opens other t J
+      IsTold (in_force r (completed r me m L)) (outcome_in table) me (suc m) b.txns (ledger_state r (completed r me m L)) opens other t J
   told_at me zero t opens other L J b l e k =
       let P : Block → Type 0 = λ c. t < length c.txns → IsTold (in_force r []) (outcome_in table) me 1 c.txns genesis opens other t J in
       let base : P (block_at chain 0) = λ j. at_first me t opens other J (omega arith) in
@@ -113,4 +113,4 @@ module _ (table : Table) (genesis : State) (say : Txn → Outcome) (txn : Txn) (
   }
 
   pub single_is_real : IsReal say d events
-  single_is_real = is_real say d (IsSound r chain doubted) along kept events f.lawful
+  single_is_real = is_real say d (IsSound r chain doubted) along kept events f.said

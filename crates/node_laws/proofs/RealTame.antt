@@ -8,7 +8,7 @@ use Rattle.node_laws.proofs.Told.{IsTold}
 use Rattle.node_laws.proofs.Real.{IsSaidAlong}
 use Rattle.node_laws.proofs.RealWorld.{IsKept, is_real}
 use Rattle.known_defs.specs.Known.{after_known, knows_all, no_outcome, txn_at}
-use Rattle.node_defs.specs.Ledger.{completed, state_of}
+use Rattle.node_defs.specs.Ledger.{completed, ledger_state}
 use Rattle.node_defs.specs.Log.{Log}
 use Rattle.node_defs.specs.Position.{is_agent, is_ready, standings}
 use Rattle.node_defs.specs.Rules.{IsLocal, Rules, in_force, rules_of}
@@ -63,7 +63,7 @@ module _ (say : Txn → Outcome) (d : Document) (events : List Event) (f : IsFai
   same_ledgers (suc m) l = both (block_at chain m) _ _ _ _ (f.told m (omega arith)) (same_ledgers m (omega arith))
 
   same_base : (m : ℕ) → m ≤ length chain → serial_base real_rules chain m ≡ serial_base say_rules chain m
-  same_base m l = ap (state_of say_rules) (same_ledgers m l)
+  same_base m l = ap (ledger_state say_rules) (same_ledgers m l)
 
   told_here : (me m t : ℕ) (opens other : Log → Bool) → m < length chain → t < length (block_at chain m).txns → (L : Log) → Sound say_rules chain faulty L →
       IsTold (in_force say_rules (serial_ledger say_rules chain m)) (outcome_in d.table) me (suc m) (block_at chain m).txns (serial_base say_rules chain m) opens other t L
@@ -94,7 +94,7 @@ module _ (say : Txn → Outcome) (d : Document) (events : List Event) (f : IsFai
     told = λ me m t opens other L b s q l J sj.
         let k = accepted_chain (told_setting say d) chain premises me m L s b q in
         let done = completed_chain (told_setting say d) chain premises me m L s b q in
-        let P : Block → List Entry → Type 0 = λ c ds. t < length c.txns → IsTold (in_force say_rules ds) (outcome_in d.table) me (suc m) c.txns (state_of say_rules ds) opens other t J in
+        let P : Block → List Entry → Type 0 = λ c ds. t < length c.txns → IsTold (in_force say_rules ds) (outcome_in d.table) me (suc m) c.txns (ledger_state say_rules ds) opens other t J in
         let base : P (block_at chain m) (serial_ledger say_rules chain m) = λ j. told_here me m t opens other k.0 j J sj in
         subst (λ c. P c (completed say_rules me m L)) (sym k.1) (subst (P (block_at chain m)) (sym done) base) l;
   }
@@ -111,4 +111,4 @@ module _ (say : Txn → Outcome) (d : Document) (events : List Event) (f : IsFai
   }
 
   pub tame_is_real : IsReal say d events
-  tame_is_real = is_real say d (IsSound say_rules chain faulty) along kept events f.lawful
+  tame_is_real = is_real say d (IsSound say_rules chain faulty) along kept events f.said

@@ -6,16 +6,16 @@ use Rattle.std.proofs.lemmas.Option.{none-some, same_Some}
 use Rattle.txn_types.specs.declared.event.Event.TheVariants as event
 use Rattle.node_laws.proofs.Real.{IsSaidAlong, same_ledger, same_halt}
 use Rattle.node_laws.proofs.RealSent.{sent_same}
-use Rattle.node_defs.specs.Ledger.{halt, state_of}
+use Rattle.node_defs.specs.Ledger.{halt, ledger_state}
 use Rattle.node_defs.specs.Log.{Letter, Log}
 use Rattle.node_defs.specs.Sent.{sent}
 use Rattle.node_defs.specs.Text.{halted_line, part_of, parts_of, text}
-use Rattle.node_defs.specs.World.{IsLawfulEvent, Setting, World, all_from, count_from, delivered, first_pool, given, given_all, given_each, happens, idled, is_faulty, log_of, message_at, peers_of, said_by, says, start}
+use Rattle.node_defs.specs.World.{IsSaidByFaulty, Setting, World, all_from, count_from, delivered, first_pool, given_to, given_all, given_each, happens, idled, is_faulty, log_of, message_at, peers_of, said_by, says, start}
 use Rattle.node_laws.proofs.AgreeSent.{all_append, all_at, all_map}
 use Rattle.node_laws.proofs.AgreeWorld.{all_get, all_replicate, all_set}
 use Rattle.node_laws.specs.RowReal.{IsReal}
 use Rattle.node_laws.specs.RowSettings.{Document, real_setting, told_setting, world_after}
-use Rattle.node_laws.specs.Rows.{ComesTo, end_of, ledger_of, outcomes_of}
+use Rattle.node_laws.specs.Rows.{ComesTo, end_of, peer_ledger, outcomes_of}
 use Rattle.oxii_defs.specs.Lines.{Entry, blocks_line, peer_lines, tail_lines}
 use Rattle.txn_types.specs.declared.event.Event.{Event}
 use Rattle.txn_types.specs.declared.message.Commit.{Commit}
@@ -51,7 +51,7 @@ module _ (say : Txn → Outcome) (d : Document) (Good : Letter → Type 0) (said
 
   -- WHAT IS GOOD STAYS SO
 
-  given_kept : (w : World) (p : ℕ) (x : Letter) → Good x → W w → W (given s w p x)
+  given_kept : (w : World) (p : ℕ) (x : Letter) → Good x → W w → W (given_to s w p x)
   given_kept w p x good a =
       let L = x ∷ get_or w.logs p [] in
       let log : AllByRecursion Good L = (good, log_good w p a) in
@@ -60,8 +60,8 @@ module _ (say : Txn → Outcome) (d : Document) (Good : Letter → Type 0) (said
         logs = all_set (AllByRecursion Good) w.logs p L a.logs log;
       }
 
-  one_kept : (w : World) (p : ℕ) (x : Letter) → Good x → W w → W (cond (is_faulty s (Peer p)) w (given s w p x))
-  one_kept w p x good a = elim (is_faulty s (Peer p)) as (λ b. W (cond b w (given s w p x))) [ true ↦ a | false ↦ given_kept w p x good a ]
+  one_kept : (w : World) (p : ℕ) (x : Letter) → Good x → W w → W (cond (is_faulty s (Peer p)) w (given_to s w p x))
+  one_kept w p x good a = elim (is_faulty s (Peer p)) as (λ b. W (cond b w (given_to s w p x))) [ true ↦ a | false ↦ given_kept w p x good a ]
 
   each_kept : (x : Letter) → Good x → (ps : List ℕ) (w : World) → W w → W (given_each s x ps w)
   each_kept x good [] w a = a
@@ -82,7 +82,7 @@ module _ (say : Txn → Outcome) (d : Document) (Good : Letter → Type 0) (said
   says_kept : (w : World) (from : Node) (m : Message) → is_faulty s from ≡ true → W w → W (says w from m)
   says_kept w from m f a = record { pool = all_append Good w.pool (record { from = from; message = m } ∷ []) a.pool (kept.speaks from m f, tt); logs = a.logs }
 
-  happens_kept : (turns : ℕ) (w u : World) (e : Event) → IsLawfulEvent s e → happens s turns w e ≡ Some u → W w → W u
+  happens_kept : (turns : ℕ) (w u : World) (e : Event) → IsSaidByFaulty s e → happens s turns w e ≡ Some u → W w → W u
   happens_kept turns w u event.All f q a = all_kept turns 1 w u q a
   happens_kept turns w u (event.SayBlock from number prev items preds) f q a = subst W (same_Some _ u q) (says_kept w from _ f a)
   happens_kept turns w u (event.SayCommit from commit) f q a = subst W (same_Some _ u q) (says_kept w from _ f a)
@@ -90,14 +90,14 @@ module _ (say : Txn → Outcome) (d : Document) (Good : Letter → Type 0) (said
     where
       one : (o : Option Letter) → message_at w m ≡ o → W (delivered s w p o)
       one None k = record { pool = a.pool; logs = a.logs }
-      one (Some x) k = elim (is_faulty s (Peer p)) as (λ b. W (cond b (idled w) (given s w p x))) [ true ↦ record { pool = a.pool; logs = a.logs } | false ↦ given_kept w p x (message_good w m x k a) a ]
+      one (Some x) k = elim (is_faulty s (Peer p)) as (λ b. W (cond b (idled w) (given_to s w p x))) [ true ↦ record { pool = a.pool; logs = a.logs } | false ↦ given_kept w p x (message_good w m x k a) a ]
 
   start_kept : W (start s)
   start_kept = record { pool = kept.begins; logs = all_replicate (AllByRecursion Good) (peers_of s) [] tt }
 
   -- BOTH WORLDS ARE ONE
 
-  given_same : (w : World) (p : ℕ) (x : Letter) → Good x → W w → given z w p x ≡ given s w p x
+  given_same : (w : World) (p : ℕ) (x : Letter) → Good x → W w → given_to z w p x ≡ given_to s w p x
   given_same w p x good a =
       ap (λ (cs : List Commit). record { pool = w.pool ++ map (said_by p) cs; idle = w.idle; logs = set w.logs p (x ∷ get_or w.logs p []) })
       (sent_same d.table d.genesis say (AllByRecursion Good) said p x (get_or w.logs p []) (good, log_good w p a))
@@ -106,7 +106,7 @@ module _ (say : Txn → Outcome) (d : Document) (Good : Letter → Type 0) (said
   each_same x good [] w a = refl
   each_same x good (p ∷ ps) w a =
       ap (λ u. given_each z x ps (cond (is_faulty s (Peer p)) w u)) (given_same w p x good a)
-      ∙ each_same x good ps (cond (is_faulty s (Peer p)) w (given s w p x)) (one_kept w p x good a)
+      ∙ each_same x good ps (cond (is_faulty s (Peer p)) w (given_to s w p x)) (one_kept w p x good a)
 
   all_same : (turns m : ℕ) (w : World) → W w → all_from z turns m w ≡ all_from s turns m w
   all_same zero m w a = refl
@@ -130,7 +130,7 @@ module _ (say : Txn → Outcome) (d : Document) (Good : Letter → Type 0) (said
       one None e = refl
       one (Some x) e = ap (cond (is_faulty s (Peer p)) (idled w)) (given_same w p x (message_good w m x e a) a)
 
-  after_same : (turns : ℕ) (es : List Event) (w : World) → AllByRecursion (IsLawfulEvent s) es → W w → world_after z turns w es ≡ world_after s turns w es
+  after_same : (turns : ℕ) (es : List Event) (w : World) → AllByRecursion (IsSaidByFaulty s) es → W w → world_after z turns w es ≡ world_after s turns w es
   after_same turns [] w l a = refl
   after_same turns (e ∷ es) w l a =
       ap (option_and_then (λ u. world_after z turns u es)) (happens_same turns w e a)
@@ -141,7 +141,7 @@ module _ (say : Txn → Outcome) (d : Document) (Good : Letter → Type 0) (said
       go None k more = refl
       go (Some u) k more = more u (happens_kept turns w u e l.0 k a)
 
-  after_kept : (turns : ℕ) (es : List Event) (w u : World) → AllByRecursion (IsLawfulEvent s) es → world_after s turns w es ≡ Some u → W w → W u
+  after_kept : (turns : ℕ) (es : List Event) (w u : World) → AllByRecursion (IsSaidByFaulty s) es → world_after s turns w es ≡ Some u → W w → W u
   after_kept turns [] w u l q a = subst W (same_Some w u q) a
   after_kept turns (e ∷ es) w u l q a = go (happens s turns w e) refl q (λ v k b. after_kept turns es v u l.1 k b)
     where
@@ -149,9 +149,9 @@ module _ (say : Txn → Outcome) (d : Document) (Good : Letter → Type 0) (said
       go None k i more = absurd (none-some u i)
       go (Some v) k i more = more v i (happens_kept turns w v e l.0 k a)
 
-  module _ (es : List Event) (lawful : AllByRecursion (IsLawfulEvent s) es) where
+  module _ (es : List Event) (spoken : AllByRecursion (IsSaidByFaulty s) es) where
     after_all : world_after z 9 (start z) es ≡ world_after s 9 (start s) es
-    after_all = after_same 9 es (start s) lawful start_kept
+    after_all = after_same 9 es (start s) spoken start_kept
 
     same_end : end_of z es ≡ end_of s es
     same_end = ap (λ o. unwrap_or o (start s)) after_all
@@ -161,10 +161,10 @@ module _ (say : Txn → Outcome) (d : Document) (Good : Letter → Type 0) (said
       where
         go : (o : Option World) → world_after s 9 (start s) es ≡ o → W (unwrap_or o (start s))
         go None k = start_kept
-        go (Some u) k = after_kept 9 es (start s) u lawful k start_kept
+        go (Some u) k = after_kept 9 es (start s) u spoken k start_kept
 
-    ledger_at : (p : ℕ) → ledger_of z (end_of z es) p ≡ ledger_of s (end_of s es) p
-    ledger_at p = ap (λ w. ledger_of z w p) same_end ∙ same_ledger d.table d.genesis say (AllByRecursion Good) said p (log_of (end_of s es) p) (log_good (end_of s es) p end_good)
+    ledger_at : (p : ℕ) → peer_ledger z (end_of z es) p ≡ peer_ledger s (end_of s es) p
+    ledger_at p = ap (λ w. peer_ledger z w p) same_end ∙ same_ledger d.table d.genesis say (AllByRecursion Good) said p (log_of (end_of s es) p) (log_good (end_of s es) p end_good)
 
     ledgers_at : (ps : List ℕ) → map (outcomes_of z (end_of z es)) ps ≡ map (outcomes_of s (end_of s es)) ps
     ledgers_at [] = refl
@@ -183,9 +183,9 @@ module _ (say : Txn → Outcome) (d : Document) (Good : Letter → Type 0) (said
 
     part_same : (p : ℕ) → part_of z p (log_of (end_of s es) p) ≡ part_of s p (log_of (end_of s es) p)
     part_same p =
-        ap (λ (done : List Entry). peer_lines d.table p (reverse done) (state_of s.rules done) ++ halted_line d.table (halt z.rules p (log_of (end_of s es) p)))
+        ap (λ (done : List Entry). peer_lines d.table p (reverse done) (ledger_state s.rules done) ++ halted_line d.table (halt z.rules p (log_of (end_of s es) p)))
         (same_ledger d.table d.genesis say (AllByRecursion Good) said p (log_of (end_of s es) p) (log_good (end_of s es) p end_good))
-        ∙ ap (λ h. peer_lines d.table p (reverse (ledger_of s (end_of s es) p)) (state_of s.rules (ledger_of s (end_of s es) p)) ++ halted_line d.table h) (halt_at_end p)
+        ∙ ap (λ h. peer_lines d.table p (reverse (peer_ledger s (end_of s es) p)) (ledger_state s.rules (peer_ledger s (end_of s es) p)) ++ halted_line d.table h) (halt_at_end p)
 
     parts_same : (ps : List ℕ) → parts_of z (end_of s es) ps ≡ parts_of s (end_of s es) ps
     parts_same [] = refl
@@ -197,7 +197,7 @@ module _ (say : Txn → Outcome) (d : Document) (Good : Letter → Type 0) (said
     pub is_real : IsReal say d es
     is_real = record {
       comes = comes_too;
-      states = λ p. ap (state_of s.rules) (ledger_at p);
+      states = λ p. ap (ledger_state s.rules) (ledger_at p);
       halts = λ p. ap (λ w. halt z.rules p (log_of w p)) same_end ∙ halt_at_end p;
       lines = ap (text z []) same_end
           ∙ ap (λ ps. blocks_line (length s.chain) ++ ps ++ tail_lines (length (end_of s es).pool) (end_of s es).idle) (parts_same (count_from 0 (peers_of s)));

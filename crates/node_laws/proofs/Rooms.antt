@@ -20,7 +20,7 @@ use Rattle.oxii_defs.specs.Syntax.{Name, Op}
 use Rattle.oxii_defs.specs.Table.{App, Table}
 use Rattle.oxii_defs.specs.WellFormed.{IsWellFormed}
 use Rattle.oxii_defs.proofs.Lengths.{txns_are_short}
-use Rattle.node_defs.specs.Admission.{admit, are_kinds, named, piece_of, piece_of_answer, same_name, with_app, with_args, with_op, with_sets}
+use Rattle.node_defs.specs.Admission.{admit, are_kinds, first_named, piece_of, piece_of_answer, same_name, with_app, with_args, with_op, with_sets}
 use Rattle.node_defs.specs.Cutting.{AreLawfulLimits, admitted, admitted_with, mark_comes, txns_in}
 
 -- AN ADMITTED REQUEST
@@ -31,11 +31,11 @@ IfFound P None = Unit {0}
 IfFound P (Some x) = P x.1
 
 -- what holds of all holds of what is found among them
-found : {A : Type 0} (P : A → Type 0) (name_of : A → Name) (name : Name) (i : ℕ) (xs : List A) → All P xs → IfFound P (named name_of name i xs)
+found : {A : Type 0} (P : A → Type 0) (name_of : A → Name) (name : Name) (i : ℕ) (xs : List A) → All P xs → IfFound P (first_named name_of name i xs)
 found P name_of name i [] all = tt
 found P name_of name i (x ∷ rest) all = one (same_name (name_of x) name) (All-head P x rest all) (found P name_of name (suc i) rest (All-tail P x rest all))
   where
-    one : (b : Bool) → P x → IfFound P (named name_of name (suc i) rest) → IfFound P (cond b (Some (i, x)) (named name_of name (suc i) rest))
+    one : (b : Bool) → P x → IfFound P (first_named name_of name (suc i) rest) → IfFound P (cond b (Some (i, x)) (first_named name_of name (suc i) rest))
     one true h more = h
     one false h more = more
 
@@ -69,14 +69,14 @@ app_held table q None h = tt
 app_held table q (Some app) h = one (list_any (same_name q.client) app.1.clients)
   where
     op : Option (ℕ × Op)
-    op = named (λ op. op.name) q.op 0 app.1.ops
+    op = first_named (λ op. op.name) q.op 0 app.1.ops
 
     one : (b : Bool) → IfHeld (cond b (with_op q app.0 op) (Err ClientNotAllowed))
     one true = op_held q app.0 op (found IsWellFormed (λ op. op.name) q.op 0 app.1.ops h.well_formed)
     one false = tt
 
 admit_held : (table : Table) → IsLawfulTable table → (q : Request) → IfHeld (admit table q)
-admit_held table lawful q = app_held table q (named (λ app. app.name) q.app 0 table.apps) (found (IsLawfulApp table) (λ app. app.name) q.app 0 table.apps lawful.lawful_apps)
+admit_held table lawful q = app_held table q (first_named (λ app. app.name) q.app 0 table.apps) (found (IsLawfulApp table) (λ app. app.name) q.app 0 table.apps lawful.lawful_apps)
 
 -- ALL ADMITTED REQUESTS
 

@@ -11,7 +11,7 @@ use Rattle.sha2.specs.Sha256.{sha256, digest_bytes}
 use Rattle.oxii_defs.specs.BlockBytes.{block_hash}
 use Rattle.oxii_defs.specs.Lines.{Entry, entry_lines, value_line, txn_line, peer_line, state_lines, blocks_line, tail_lines}
 use Rattle.txn_types.specs.declared.event.Event.TheVariants as event
-use Rattle.node_defs.specs.Ledger.{Halt, state_of}
+use Rattle.node_defs.specs.Ledger.{Halt, ledger_state}
 use Rattle.node_defs.specs.Text.{text, halted_line}
 use Rattle.node_laws.specs.RowSettings.{Document, real_setting, told_setting, p2, leaves}
 use Rattle.node_laws.specs.Rows.{relay, two_agents, false_majority, lies, end_of, copied}
@@ -36,7 +36,7 @@ with_values d p done halt values =
 
 -- the values of a and b after a ledger
 abbrev pub values_of : Document → List Entry → List ℕ
-values_of d done = let state = state_of (real_setting d).rules done in value_in state 0 ∷ value_in state 1 ∷ []
+values_of d done = let state = ledger_state (real_setting d).rules done in value_in state 0 ∷ value_in state 1 ∷ []
 
 -- two peers' parts
 abbrev pub two_parts : ℕ → List ℕ → List ℕ → ℕ → List ℕ
@@ -71,7 +71,7 @@ abbrev copies : List Entry
 copies = entry (relay p2) 0 (copied ∷ copied ∷ copied ∷ []) ∷ []
 
 abbrev four_values : List ℕ
-four_values = let s = state_of (told_setting told_copies (relay p2)).rules copies in value_in s 0 ∷ value_in s 1 ∷ value_in s 2 ∷ value_in s 3 ∷ []
+four_values = let s = ledger_state (told_setting told_copies (relay p2)).rules copies in value_in s 0 ∷ value_in s 1 ∷ value_in s 2 ∷ value_in s 3 ∷ []
 
 relay_values : four_values ≡ 1 ∷ 1 ∷ 1 ∷ 1 ∷ []
 relay_values = simp gets

@@ -15,7 +15,7 @@ use Rattle.oxii_defs.specs.Outcomes.{run}
 use Rattle.oxii_defs.specs.Running.{value_of, truth_of, after}
 use Rattle.oxii_defs.specs.State.{value_in}
 use Rattle.sha2.specs.Sha256.{sha256, digest_bytes, hash_after, compress, rounds, schedule, first_words}
-use Rattle.node_defs.specs.Ledger.{state_of}
+use Rattle.node_defs.specs.Ledger.{ledger_state}
 use Rattle.node_defs.specs.Serial.{block_at}
 use Rattle.node_defs.specs.Tame.{IsTame, faulty_agents, rules_at}
 use Rattle.node_laws.specs.RowReal.{EndsAs, LateBlockOtherState, LateBlockState}
@@ -91,7 +91,7 @@ late_other_found = refl
 
 late_state : (p : ℕ) → told_ledger_of (real_setting late_block) twice (told_end (real_setting late_block) twice late) p ≡ late_ledger → EndsAs late_block late p 2 8
 late_state p e =
-    let end = states (real_setting late_block) late_premises twice late_told late (tt, (tt, (tt, (tt, (tt, (tt, tt)))))) p ∙ ap (state_of (real_setting late_block).rules) e in
+    let end = states (real_setting late_block) late_premises twice late_told late (tt, (tt, (tt, (tt, (tt, (tt, tt)))))) p ∙ ap (ledger_state (real_setting late_block).rules) e in
     record { first = ap (λ s. value_in s 0) end ∙ first_of late_values; second = ap (λ s. value_in s 1) end ∙ second_of late_values }
   where
     first_of : {a b c d : ℕ} → ◌≡◌ {A = List ℕ} (a ∷ b ∷ []) (c ∷ d ∷ []) → a ≡ c

@@ -15,8 +15,8 @@ use Rattle.oxii_defs.specs.Outcomes.{run}
 use Rattle.node_defs.specs.World.{Setting}
 use Rattle.node_defs.specs.Serial.{block_at}
 use Rattle.node_defs.specs.Tame.{IsTame, faulty_agents, rules_at}
-use Rattle.node_laws.specs.RowSettings.{Document, told_setting, bank, leaves, says_commit, p2, p3}
-use Rattle.node_laws.specs.Rows.{relay, scattered, two_agents, repeated, one_transfer, three_agents, false_orderer, two_blocks_said, retired_agent}
+use Rattle.node_laws.specs.RowSettings.{Document, told_setting, bank_app, leaves, says_commit, p2, p3}
+use Rattle.node_laws.specs.Rows.{relay, scattered, two_agents, repeated_votes, one_transfer, three_agents, false_orderer, two_blocks_said, retired_agent}
 use Rattle.node_laws.specs.RowTexts.{IsToldRightly}
 use Rattle.node_laws.specs.RowReal.{IsFaithful}
 use Rattle.node_laws.proofs.RowsTold.{told_copies, told_move, told_three, told_pair}
@@ -95,19 +95,19 @@ two_agents_of_three_tame = record { orderers = ltb-true _ _ refl; agents = at }
     at zero l = few_at (told_setting told_three (two_agents p3 2)) 0 (ltb-true _ _ refl, (ltb-true _ _ refl, (ltb-true _ _ refl, tt)))
     at (suc m) l = absurd (past_1 m _ refl l)
 
-one_of_two_0 : IsToldRightly told_move (one_transfer p3 (bank (0 ∷ 1 ∷ []) 1 ∷ []) []) 0
+one_of_two_0 : IsToldRightly told_move (one_transfer p3 (bank_app (0 ∷ 1 ∷ []) 1 ∷ []) []) 0
 unfolding run after value_of truth_of
 one_of_two_0 = simp gets
 
-one_of_two_told : Told told_move (one_transfer p3 (bank (0 ∷ 1 ∷ []) 1 ∷ []) [])
+one_of_two_told : Told told_move (one_transfer p3 (bank_app (0 ∷ 1 ∷ []) 1 ∷ []) [])
 one_of_two_told zero l = one_of_two_0
 one_of_two_told (suc m) l = absurd (past_1 m _ refl l)
 
-one_of_two_tame : IsTame (told_setting told_move (one_transfer p3 (bank (0 ∷ 1 ∷ []) 1 ∷ []) []))
+one_of_two_tame : IsTame (told_setting told_move (one_transfer p3 (bank_app (0 ∷ 1 ∷ []) 1 ∷ []) []))
 one_of_two_tame = record { orderers = ltb-true _ _ refl; agents = at }
   where
-    at : (m : ℕ) → m < length (agreed_chain (one_transfer p3 (bank (0 ∷ 1 ∷ []) 1 ∷ []) []).table (one_transfer p3 (bank (0 ∷ 1 ∷ []) 1 ∷ []) []).bodies) → All (λ t. faulty_agents (told_setting told_move (one_transfer p3 (bank (0 ∷ 1 ∷ []) 1 ∷ []) [])) m t.app < (rules_at (told_setting told_move (one_transfer p3 (bank (0 ∷ 1 ∷ []) 1 ∷ []) [])) m).tau t.app) (block_at (told_setting told_move (one_transfer p3 (bank (0 ∷ 1 ∷ []) 1 ∷ []) [])).chain m).txns
-    at zero l = few_at (told_setting told_move (one_transfer p3 (bank (0 ∷ 1 ∷ []) 1 ∷ []) [])) 0 (ltb-true _ _ refl, tt)
+    at : (m : ℕ) → m < length (agreed_chain (one_transfer p3 (bank_app (0 ∷ 1 ∷ []) 1 ∷ []) []).table (one_transfer p3 (bank_app (0 ∷ 1 ∷ []) 1 ∷ []) []).bodies) → All (λ t. faulty_agents (told_setting told_move (one_transfer p3 (bank_app (0 ∷ 1 ∷ []) 1 ∷ []) [])) m t.app < (rules_at (told_setting told_move (one_transfer p3 (bank_app (0 ∷ 1 ∷ []) 1 ∷ []) [])) m).tau t.app) (block_at (told_setting told_move (one_transfer p3 (bank_app (0 ∷ 1 ∷ []) 1 ∷ []) [])).chain m).txns
+    at zero l = few_at (told_setting told_move (one_transfer p3 (bank_app (0 ∷ 1 ∷ []) 1 ∷ []) [])) 0 (ltb-true _ _ refl, tt)
     at (suc m) l = absurd (past_1 m _ refl l)
 
 three_agents_0 : IsToldRightly told_move (three_agents (Peer 2 ∷ [])) 0
@@ -161,28 +161,28 @@ retired_agent_tame = record { orderers = ltb-true _ _ refl; agents = at }
     at (suc (suc m)) l = absurd (past_2 m _ refl l)
 
 pub relay_faithful : IsFaithful told_copies (relay p2) (event.All ∷ [])
-relay_faithful = record { tame = relay_tame; told = relay_told; lawful = (tt, tt) }
+relay_faithful = record { tame = relay_tame; told = relay_told; said = (tt, tt) }
 
 pub scattered_before_faithful : IsFaithful told_copies (relay p3) (scattered)
-scattered_before_faithful = record { tame = relay_three_tame; told = relay_three_told; lawful = (tt, (tt, (tt, (tt, (tt, (tt, (tt, tt))))))) }
+scattered_before_faithful = record { tame = relay_three_tame; told = relay_three_told; said = (tt, (tt, (tt, (tt, (tt, (tt, (tt, tt))))))) }
 
 pub scattered_faithful : IsFaithful told_copies (relay p3) (scattered ++ event.Deliver 2 2 ∷ [])
-scattered_faithful = record { tame = relay_three_tame; told = relay_three_told; lawful = (tt, (tt, (tt, (tt, (tt, (tt, (tt, (tt, tt)))))))) }
+scattered_faithful = record { tame = relay_three_tame; told = relay_three_told; said = (tt, (tt, (tt, (tt, (tt, (tt, (tt, (tt, tt)))))))) }
 
 pub two_agents_faithful : IsFaithful told_three (two_agents p2 2) (event.All ∷ [])
-two_agents_faithful = record { tame = two_agents_tame; told = two_agents_told; lawful = (tt, tt) }
+two_agents_faithful = record { tame = two_agents_tame; told = two_agents_told; said = (tt, tt) }
 
-pub repeated_vote_faithful : IsFaithful told_three (two_agents p3 2) (repeated)
-repeated_vote_faithful = record { tame = two_agents_of_three_tame; told = two_agents_of_three_told; lawful = (tt, (tt, (tt, (tt, (tt, (tt, (tt, tt))))))) }
+pub repeated_vote_faithful : IsFaithful told_three (two_agents p3 2) (repeated_votes)
+repeated_vote_faithful = record { tame = two_agents_of_three_tame; told = two_agents_of_three_told; said = (tt, (tt, (tt, (tt, (tt, (tt, (tt, tt))))))) }
 
-pub one_of_two_agents_faithful : IsFaithful told_move (one_transfer p3 (bank (0 ∷ 1 ∷ []) 1 ∷ []) []) (event.Deliver 1 0 ∷ event.Deliver 1 2 ∷ event.Deliver 2 2 ∷ [])
-one_of_two_agents_faithful = record { tame = one_of_two_tame; told = one_of_two_told; lawful = (tt, (tt, (tt, tt))) }
+pub one_of_two_agents_faithful : IsFaithful told_move (one_transfer p3 (bank_app (0 ∷ 1 ∷ []) 1 ∷ []) []) (event.Deliver 1 0 ∷ event.Deliver 1 2 ∷ event.Deliver 2 2 ∷ [])
+one_of_two_agents_faithful = record { tame = one_of_two_tame; told = one_of_two_told; said = (tt, (tt, (tt, tt))) }
 
 pub outvoted_faithful : IsFaithful told_move (three_agents (Peer 2 ∷ [])) (says_commit 2 1 (leaves 0) ∷ event.Deliver 1 3 ∷ event.Deliver 2 3 ∷ event.Deliver 2 0 ∷ event.All ∷ [])
-outvoted_faithful = record { tame = three_agents_tame; told = three_agents_told; lawful = (refl, (tt, (tt, (tt, (tt, tt))))) }
+outvoted_faithful = record { tame = three_agents_tame; told = three_agents_told; said = (refl, (tt, (tt, (tt, (tt, tt))))) }
 
 pub false_orderer_faithful : IsFaithful told_pair false_orderer (two_blocks_said)
-false_orderer_faithful = record { tame = false_orderer_tame; told = false_orderer_told; lawful = (refl, (refl, (tt, (tt, (tt, tt))))) }
+false_orderer_faithful = record { tame = false_orderer_tame; told = false_orderer_told; said = (refl, (refl, (tt, (tt, (tt, tt))))) }
 
 pub retired_agent_faithful : IsFaithful told_move retired_agent (says_commit 0 2 (leaves 0) ∷ event.All ∷ [])
-retired_agent_faithful = record { tame = retired_agent_tame; told = retired_agent_told; lawful = (refl, (tt, tt)) }
+retired_agent_faithful = record { tame = retired_agent_tame; told = retired_agent_told; said = (refl, (tt, tt)) }

@@ -3,7 +3,7 @@ use Rattle.std.specs.Prelude.{ℕ, ◌≤◌, ◌≡◌, List, [], ◌∷◌, �
 use Rattle.std.proofs.Common.{sym, ◌∙◌, ap, arith, append-nil}
 use Rattle.std.proofs.lemmas.List.{reverse-append}
 use Rattle.std.proofs.Math.Seq.{take-suc}
-use Rattle.node_defs.specs.Ledger.{after_outcomes, heard, ledger, state_of}
+use Rattle.node_defs.specs.Ledger.{after_outcomes, heard, ledger, ledger_state}
 use Rattle.node_defs.specs.Rules.{rules_of}
 use Rattle.node_defs.specs.Serial.{block_at, no_block, serial, serial_base, serial_ledger}
 use Rattle.node_defs.specs.Text.{halted_line}
@@ -59,15 +59,15 @@ two_parts : (table : Table) (p : ℕ) (es fs : List Entry) (s u : State) → es 
 two_parts table p es fs s u e f = append-nil (peer_lines table p es s) ∙ (ap (λ x. peer_lines table p x s) e ∙ ap (peer_lines table p fs) f)
 
 pub serial_part_law : SerialPart
-serial_part_law table genesis items bodies faulty events w p tame lawful world =
+serial_part_law table genesis items bodies faulty events w p tame said world =
     let s = setting_of table genesis items bodies faulty in
-    let all = agreement table genesis items bodies faulty events w tame lawful world in
+    let all = agreement table genesis items bodies faulty events w tame said world in
     let one = all.peers p in
     let L = heard s.rules p (log_of w p) in
     let c = length (ledger s.rules p L) in (
       one.few,
-      ap (λ h. peer_lines table p (reverse (ledger s.rules p L)) (state_of s.rules (ledger s.rules p L)) ++ halted_line table h) one.runs
-          ∙ two_parts table p (reverse (ledger s.rules p L)) (ledger_of table genesis (take c s.chain)) (state_of s.rules (ledger s.rules p L)) (state_after table genesis (take c s.chain))
+      ap (λ h. peer_lines table p (reverse (ledger s.rules p L)) (ledger_state s.rules (ledger s.rules p L)) ++ halted_line table h) one.runs
+          ∙ two_parts table p (reverse (ledger s.rules p L)) (ledger_of table genesis (take c s.chain)) (ledger_state s.rules (ledger s.rules p L)) (state_after table genesis (take c s.chain))
           (ap reverse one.blocks ∙ ledger_is table genesis s.chain c one.few)
           (one.state ∙ state_is table genesis s.chain c one.few),
     )

@@ -1,4 +1,4 @@
--- What a delivery comes to: known outcomes that are sound, and closed under the rules, are exactly the believed ones.
+-- What a delivery comes to: known outcomes that are sound, and to which the rules add nothing, are exactly the believed ones.
 -- So the code may find them in any order, and in rounds.
 use Rattle.std.specs.Prelude.{ℕ, ◌<◌, ◌≤◌, Bool, true, false, ◌&&◌, cond, if◌then◌else◌, List, [], ◌∷◌, ◌++◌, map, length, get_or, take, Option, Some, None, ◌≡◌, refl, suc, zero}
 use Rattle.std.proofs.Common.{sym, ◌∙◌, ap, arith, ⊎_elim}
@@ -8,7 +8,6 @@ use Rattle.std.proofs.lemmas.List.{map_push, length_push, get_or_append_left, ge
 use Rattle.std.proofs.Math.Seq.{take-suc}
 use Rattle.board_defs.specs.Closure.{Plan, can_run, closure_upto, comes_to, is_own, known_at}
 use Rattle.known_defs.specs.Known.{after_known, knows_all, txn_at}
-use Rattle.node_defs.specs.Ledger.{closed}
 use Rattle.node_defs.specs.Log.{Log}
 use Rattle.node_defs.specs.Position.{Standing, Work, agreed, is_agent, standing, standings}
 use Rattle.node_defs.specs.Rules.{Rules, in_force_behind, rules_of}
@@ -46,9 +45,9 @@ believed_is rules w L t op = rw op (one (is_agent rules w.me (txn_at w.txns t)) 
     one false true = refl
     one false false = refl
 
--- xs is closed: each position that the rules give an outcome has it
-abbrev pub IsClosed : Rules → Work → Log → List (Option Outcome) → Type 0
-IsClosed rules w L xs = (t : ℕ) (o : Outcome) → t < length w.txns → given_of rules w L t (take t xs) ≡ Some o → get_or xs t None ≡ Some o
+-- the rules add nothing to xs: each position that they give an outcome has it
+abbrev pub AddNothing : Rules → Work → Log → List (Option Outcome) → Type 0
+AddNothing rules w L xs = (t : ℕ) (o : Outcome) → t < length w.txns → given_of rules w L t (take t xs) ≡ Some o → get_or xs t None ≡ Some o
 
 pub within_at : (xs ys : List (Option Outcome)) (t : ℕ) (o : Outcome) → Within xs ys → get_or xs t None ≡ Some o → get_or ys t None ≡ Some o
 within_at [] ys t o w h = absurd (none-some o h)
@@ -82,10 +81,10 @@ front rules w L (suc n) t h =
 pair : (xs ys : List (Option Outcome)) (x y : Option Outcome) → xs ≡ ys → x ≡ y → xs ++ x ∷ [] ≡ ys ++ y ∷ []
 pair xs ys x y p q = cc
 
-pub settled : (rules : Rules) (w : Work) (L : Log) (xs : List (Option Outcome)) → w.opens L ≡ true → length xs ≡ length w.txns → Within xs (beliefs_at rules w L (length w.txns)) → IsClosed rules w L xs → (t : ℕ) → t ≤ length w.txns → take t xs ≡ beliefs_at rules w L t
-settled rules w L xs op n within closed zero h = refl
-settled rules w L xs op n within closed (suc t) h =
-    let before = settled rules w L xs op n within closed t (omega arith) in
+pub settled : (rules : Rules) (w : Work) (L : Log) (xs : List (Option Outcome)) → w.opens L ≡ true → length xs ≡ length w.txns → Within xs (beliefs_at rules w L (length w.txns)) → AddNothing rules w L xs → (t : ℕ) → t ≤ length w.txns → take t xs ≡ beliefs_at rules w L t
+settled rules w L xs op n within nothing_more zero h = refl
+settled rules w L xs op n within nothing_more (suc t) h =
+    let before = settled rules w L xs op n within nothing_more t (omega arith) in
     let l : t < length xs = omega arith in
     take-suc xs t None l ∙ (one before (given_of rules w L t (take t xs)) refl (get_or xs t None) refl ∙ sym (map_push (λ (s : Standing). s.believed) (standings rules w t L) (standing rules w t (standings rules w t) L)))
   where
@@ -94,7 +93,7 @@ settled rules w L xs op n within closed (suc t) h =
 
     one : take t xs ≡ beliefs_at rules w L t → (g : Option Outcome) → given_of rules w L t (take t xs) ≡ g → (x : Option Outcome) → get_or xs t None ≡ x → take t xs ++ get_or xs t None ∷ [] ≡ beliefs_at rules w L t ++ believed ∷ []
     one b (Some o) e x q =
-        let here : get_or xs t None ≡ Some o = closed t o (omega arith) e in
+        let here : get_or xs t None ≡ Some o = nothing_more t o (omega arith) e in
         let there : believed ≡ Some o = believed_is rules w L t op ∙ (ap (given_of rules w L t) (sym b) ∙ e) in
         pair (take t xs) (beliefs_at rules w L t) (get_or xs t None) believed b (here ∙ sym there)
     one b None e None q =

@@ -1,7 +1,7 @@
 -- An input has exactly one text.
 use Rattle.std.specs.Prelude.{◌≡◌, ℕ, List, map, refl}
 use Rattle.std.proofs.Common.{sym, ◌∙◌, ap, subst}
-use Rattle.node_defs.specs.Cutting.{AreAgreed, admitted, body_of, rejected_from}
+use Rattle.node_defs.specs.Cutting.{AreAgreed, admitted, carried_body, rejected_from}
 use Rattle.node_defs.specs.Text.{IsTextOf, text}
 use Rattle.node_defs.specs.World.{IsWorld, World, setting_of, start}
 use Rattle.node_laws.proofs.Cuttings.{one_cutting}
@@ -18,7 +18,7 @@ use Rattle.txn_types.specs.declared.stream.CutLimits.{CutLimits}
 use Rattle.txn_types.specs.declared.stream.Item.{Item}
 
 same_bodies : (table : Table) (limits : CutLimits) (items : List Item) (one other : List Body) → AreAgreed table limits items one → AreAgreed table limits items other → one ≡ other
-same_bodies table limits items one other a b = a.2 ∙ ap (map body_of) (one_cutting table limits (admitted table items) a.0 b.0 a.1 b.1) ∙ sym b.2
+same_bodies table limits items one other a b = a.2 ∙ ap (map carried_body) (one_cutting table limits (admitted table items) a.0 b.0 a.1 b.1) ∙ sym b.2
 
 same_text : (table : Table) (genesis : State) (items : List Item) (limits : CutLimits) (faulty : List Node) (events : List Event) (bodies : List Body) (w : World) →
     AreAgreed table limits items bodies → IsWorld (setting_of table genesis items bodies faulty) events w →
@@ -37,7 +37,7 @@ same_text table genesis items limits faulty events bodies w agreed_bodies world 
 pub one_text : OneText
 one_text table genesis items limits faulty events lawful fair =
     let cut = exactly_one_cutting table limits items lawful fair in
-    let bodies = map body_of cut.lists in
+    let bodies = map carried_body cut.lists in
     let world = one_world table genesis items bodies faulty events in
     record {
       lines = text (setting_of table genesis items bodies faulty) (rejected_from table 0 items) world.world;

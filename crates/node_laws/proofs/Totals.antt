@@ -9,7 +9,7 @@ use Rattle.std.proofs.lemmas.List.{length-append}
 use Rattle.txn_types.specs.declared.message.Message.TheVariants as message
 use Rattle.node_defs.specs.Accepted.{accepted, accepted_after, tip}
 use Rattle.node_defs.specs.Counting.{first_of_each, first_to_reach}
-use Rattle.node_defs.specs.Ledger.{completed, heard, is_split, state_of, work_on}
+use Rattle.node_defs.specs.Ledger.{completed, heard, is_split, ledger_state, work_on}
 use Rattle.node_defs.specs.Log.{Letter, Log, first_newblocks, is_good, newblock_from, newblock_in}
 use Rattle.node_defs.specs.Position.{Work}
 use Rattle.node_defs.specs.Rules.{IsLocal, Rules, in_force}
@@ -180,7 +180,7 @@ sent_at rules l me m e L = one (accepted_at rules me m L) refl
         let w = work_on rules me m (completed rules me m) L b in
         let x = length (batches r w (run_order r w L)) in
         let opens : Log → Bool = λ K. is_some (accepted_after rules m (completed rules me m K) K) in
-        let of : List Entry → Work = λ ds. record { me = me; n = suc m; txns = b.txns; base = state_of rules ds; opens = opens } in
+        let of : List Entry → Work = λ ds. record { me = me; n = suc m; txns = b.txns; base = ledger_state rules ds; opens = opens } in
         let P : List Entry → Type 0 = λ ds. length (sent_of (in_force rules ds) (of ds) e L) + x ≤ length (batches (in_force rules ds) (of ds) (run_order (in_force rules ds) (of ds) (e ∷ L))) in
         let Q : Option Block → Type 0 = λ o. length (sent_with rules me m e L o) + x ≤ batches_with rules me m (e ∷ L) o in
         subst Q (sym k.0) (subst P (sym k.1) (sent_few r l w (stays_open rules me m (ledger_grows rules l me m) L b) e L))

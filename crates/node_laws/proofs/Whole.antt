@@ -10,7 +10,7 @@ use Rattle.std.proofs.lemmas.Option.{none-some}
 use Rattle.std.proofs.lemmas.List.{length-map}
 use Rattle.std.proofs.lemmas.Map.Made.{length-le_from_is_member}
 use Rattle.node_defs.specs.Accepted.{accepted, accepted_after, tip}
-use Rattle.node_defs.specs.Ledger.{agreed_outcome, closed, completed, completed_with, is_agreed, ledger, work_on}
+use Rattle.node_defs.specs.Ledger.{agreed_outcome, with_entry, completed, completed_with, is_agreed, ledger, work_on}
 use Rattle.node_defs.specs.Log.{Letter, Log, newblock_from, newblock_in}
 use Rattle.node_defs.specs.Position.{Standing, standings}
 use Rattle.node_defs.specs.Rules.{Rules, in_force}
@@ -105,7 +105,7 @@ grown rules me m L h = one (accepted_after rules m (completed rules me m L) L)
     one None = inl refl
     one (Some b) = two (standings (in_force rules (completed rules me m L)) (work_on rules me m (completed rules me m) L b) (length b.txns) L)
       where
-        two : (all : List Standing) → (closed b all (completed rules me m L) ≡ completed rules me m L) ⊎ (length (closed b all (completed rules me m L)) ≡ suc m)
+        two : (all : List Standing) → (with_entry b all (completed rules me m L) ≡ completed rules me m L) ⊎ (length (with_entry b all (completed rules me m L)) ≡ suc m)
         two all = elim (list_all is_agreed all) as (λ t. (cond t (record { block = b; outcomes = map agreed_outcome all } ∷ completed rules me m L) (completed rules me m L) ≡ completed rules me m L) ⊎ (length (cond t (record { block = b; outcomes = map agreed_outcome all } ∷ completed rules me m L) (completed rules me m L)) ≡ suc m)) [ true ↦ inr (ap suc h) | false ↦ inl refl ]
 
 -- more turns complete nothing more

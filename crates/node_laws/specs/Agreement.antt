@@ -1,6 +1,6 @@
 -- The agreement law.
 use Rattle.std.specs.Prelude.{ℕ, ◌<◌, ◌≤◌, ◌≡◌, Bool, false, List, length, get_or, take, Some, None, suc}
-use Rattle.std.specs.List.{AllByRecursion}
+use Rattle.std.specs.List.{All, AllByRecursion}
 use Rattle.txn_types.specs.declared.block.Block.{Block}
 use Rattle.txn_types.specs.declared.message.Node.{Node}
 use Rattle.txn_types.specs.declared.message.Node.TheVariants.{Peer, Orderer}
@@ -17,10 +17,10 @@ use Rattle.oxii_defs.specs.Table.{Table}
 use Rattle.oxii_defs.specs.Lines.{serial_part}
 use Rattle.node_defs.specs.Rules.{Rules}
 use Rattle.node_defs.specs.Log.{Letter, Log}
-use Rattle.node_defs.specs.Ledger.{ledger, heard, split, state_of}
-use Rattle.node_defs.specs.Sent.{nothing}
+use Rattle.node_defs.specs.Ledger.{ledger, heard, split, ledger_state}
+use Rattle.node_defs.specs.Sent.{no_standing}
 use Rattle.node_defs.specs.Serial.{block_at, serial_outcomes_at, serial_ledger, serial_base}
-use Rattle.node_defs.specs.World.{World, Setting, setting_of, is_faulty, log_of, IsLawfulEvent, IsWorld}
+use Rattle.node_defs.specs.World.{World, Setting, setting_of, is_faulty, log_of, IsSaidByFaulty, IsWorld}
 use Rattle.node_defs.specs.Tame.{IsTame}
 use Rattle.node_defs.specs.Text.{part_of}
 use Rattle.node_laws.specs.Growth.{accepted_at, standings_at}
@@ -47,23 +47,23 @@ pub record IsWithChain (s : Setting) (p : ℕ) (L : Log) : Type 0 where
   pub runs : split s.rules p L ≡ None
   pub accepted : (m : ℕ) (b : Block) → accepted_at s.rules p m L ≡ Some b → (m < length s.chain) × (b ≡ block_at s.chain m)
   pub agreed : (m : ℕ) (b : Block) (t : ℕ) (o : Outcome) → accepted_at s.rules p m L ≡ Some b →
-      (get_or (standings_at s.rules p m b L) t nothing).agreed ≡ Some o → o ≡ get_or (serial_outcomes_at s.rules s.chain m) t no_outcome
+      (get_or (standings_at s.rules p m b L) t no_standing).agreed ≡ Some o → o ≡ get_or (serial_outcomes_at s.rules s.chain m) t no_outcome
   pub known : (m : ℕ) (b : Block) (t : ℕ) (o : Outcome) → accepted_at s.rules p m L ≡ Some b →
-      (get_or (standings_at s.rules p m b L) t nothing).believed ≡ Some o → o ≡ get_or (serial_outcomes_at s.rules s.chain m) t no_outcome
+      (get_or (standings_at s.rules p m b L) t no_standing).believed ≡ Some o → o ≡ get_or (serial_outcomes_at s.rules s.chain m) t no_outcome
   pub few : length (ledger s.rules p L) ≤ length s.chain
   pub blocks : ledger s.rules p L ≡ serial_ledger s.rules s.chain (length (ledger s.rules p L))
-  pub state : state_of s.rules (ledger s.rules p L) ≡ serial_base s.rules s.chain (length (ledger s.rules p L))
+  pub state : ledger_state s.rules (ledger s.rules p L) ≡ serial_base s.rules s.chain (length (ledger s.rules p L))
 
 -- what holds of a world: each vote that a peer that isn't faulty sent is right, and each peer is with the chain
 pub record IsInAgreement (s : Setting) (w : World) : Type 0 where
   pub votes : AllByRecursion (IsSound s.rules s.chain (is_faulty s)) w.pool
   pub peers : (p : ℕ) → IsWithChain s p (heard s.rules p (log_of w p))
 
--- if the input is tame, then any events lead to a world in agreement
+-- if the input is tame, then any events in which faulty nodes alone say what they like lead to a world in agreement
 abbrev pub Agreement : Type 0
 Agreement = (table : Table) (genesis : State) (items : List Item) (bodies : List Body) (faulty : List Node) (events : List Event) (w : World) →
     let s = setting_of table genesis items bodies faulty in
-    IsTame s → AllByRecursion (IsLawfulEvent s) events → IsWorld s events w → IsInAgreement s w
+    IsTame s → All (IsSaidByFaulty s) events → IsWorld s events w → IsInAgreement s w
 
 -- THE SERIAL PART
 
@@ -75,6 +75,6 @@ completed_count s w p = length (ledger s.rules p (heard s.rules p (log_of w p)))
 abbrev pub SerialPart : Type 0
 SerialPart = (table : Table) (genesis : State) (items : List Item) (bodies : List Body) (faulty : List Node) (events : List Event) (w : World) (p : ℕ) →
     let s = setting_of table genesis items bodies faulty in
-    IsTame s → AllByRecursion (IsLawfulEvent s) events → IsWorld s events w →
+    IsTame s → All (IsSaidByFaulty s) events → IsWorld s events w →
     (completed_count s w p ≤ length s.chain)
     × (part_of s p (log_of w p) ≡ serial_part table genesis p (take (completed_count s w p) s.chain))

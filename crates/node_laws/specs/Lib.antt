@@ -10,3 +10,4 @@ pub mod RowTexts
 pub mod OneText
 pub mod RowReal
 pub mod RowCuts
+pub mod Admissions

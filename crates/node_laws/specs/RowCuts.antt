@@ -11,7 +11,7 @@ use Rattle.oxii_defs.specs.Syntax.{Name, Param, SetRec, Done, Then, RecKind, Num
 use Rattle.oxii_defs.specs.Table.{Table}
 use Rattle.node_defs.specs.World.{count_from}
 use Rattle.node_defs.specs.Cutting.{AreAgreed, rejected_from}
-use Rattle.node_laws.specs.RowSettings.{transfers, bank, transfer_body, o1, p1}
+use Rattle.node_laws.specs.RowSettings.{transfers, bank_app, transfer_body, o1, p1}
 
 -- MARKS: marks close blocks, and many in a row are as one
 
@@ -23,13 +23,13 @@ abbrev pub widest : CutLimits
 widest = record { txns = 256; bytes = 1048576 }
 
 abbrev pub Marks : Type 0
-Marks = AreAgreed (transfers o1 1 p1 (bank (0 ∷ []) 1 ∷ [])) widest
+Marks = AreAgreed (transfers o1 1 p1 (bank_app (0 ∷ []) 1 ∷ [])) widest
     (item.Mark ∷ item.Mark ∷ asks 4 ∷ item.Mark ∷ item.Mark ∷ asks 4 ∷ item.Mark ∷ [])
     (transfer_body (4 ∷ []) ∷ transfer_body (4 ∷ []) ∷ [])
 
 -- without marks there is one block
 abbrev pub NoMarks : Type 0
-NoMarks = AreAgreed (transfers o1 1 p1 (bank (0 ∷ []) 1 ∷ [])) widest (asks 4 ∷ asks 1 ∷ []) (transfer_body (4 ∷ 1 ∷ []) ∷ [])
+NoMarks = AreAgreed (transfers o1 1 p1 (bank_app (0 ∷ []) 1 ∷ [])) widest (asks 4 ∷ asks 1 ∷ []) (transfer_body (4 ∷ 1 ∷ []) ∷ [])
 
 -- REJECTS: each test in turn
 

@@ -9,12 +9,12 @@ use Rattle.oxii_defs.specs.State.{State}
 use Rattle.oxii_defs.specs.Table.{Table}
 use Rattle.oxii_defs.specs.Outcomes.{outcome_in}
 use Rattle.oxii_defs.specs.Chain.{chain as agreed_chain}
-use Rattle.node_defs.specs.World.{IsLawfulEvent}
+use Rattle.node_defs.specs.World.{IsSaidByFaulty}
 use Rattle.node_defs.specs.Tame.{IsTame, faulty_orderers}
 use Rattle.node_defs.specs.Text.{text}
 use Rattle.txn_types.specs.declared.event.Event.TheVariants as event
 use Rattle.node_laws.specs.RowSettings.{Document, told_setting, real_setting, p3, leaves, says_commit}
-use Rattle.node_laws.specs.Rows.{ComesTo, copied, end_of, halt_of, state_at, relay, scattered, two_agents, repeated, late_block, late, false_orderer, two_blocks_said, retired_agent, Relay, ScatteredBefore, Scattered, TwoAgents, RepeatedVote, OneOfTwoAgents, LateBlockStart, LateBlockBefore, LateBlock, IdleDelivery, Outvoted, FalseMajority, FalseOrderer, UnfitVotesBefore, UnfitVotes, ChangeOfAgents, RetiredAgent, UnknownAncestor, KnownAncestor, OffTheChain, OnTheChain}
+use Rattle.node_laws.specs.Rows.{ComesTo, copied, end_of, peer_halt, state_at, relay, scattered, two_agents, repeated_votes, late_block, late, false_orderer, two_blocks_said, retired_agent, Relay, ScatteredBefore, Scattered, TwoAgents, RepeatedVote, OneOfTwoAgents, LateBlockStart, LateBlockBefore, LateBlock, IdleDelivery, Outvoted, FalseMajority, FalseOrderer, UnfitVotesBefore, UnfitVotes, ChangeOfAgents, RetiredAgent, UnknownAncestor, KnownAncestor, OffTheChain, OnTheChain}
 use Rattle.node_laws.specs.RowCuts.{Marks, NoMarks, Rejects}
 use Rattle.node_laws.specs.RowTexts.{IsToldRightly, EndsWith, RelayText, TwoAgentsText, FalseMajorityText, ChangeOfAgentsText}
 
@@ -22,7 +22,7 @@ use Rattle.node_laws.specs.RowTexts.{IsToldRightly, EndsWith, RelayText, TwoAgen
 pub record IsFaithful (say : Txn → Outcome) (d : Document) (events : List Event) : Type 0 where
   pub tame : IsTame (told_setting say d)
   pub told : (m : ℕ) → m < length (agreed_chain d.table d.bodies) → IsToldRightly say d m
-  pub lawful : AllByRecursion (IsLawfulEvent (told_setting say d)) events
+  pub said : AllByRecursion (IsSaidByFaulty (told_setting say d)) events
 
 -- a row of one transaction
 abbrev pub single : Table → State → Txn → List Node → Document
@@ -32,14 +32,14 @@ single table genesis txn faulty = record { table = table; genesis = genesis; bod
 pub record IsSingle (table : Table) (genesis : State) (say : Txn → Outcome) (txn : Txn) (faulty : List Node) (events : List Event) : Type 0 where
   pub orderers : faulty_orderers (told_setting say (single table genesis txn faulty)) < table.quorum
   pub told : outcome_in table genesis txn ≡ say txn
-  pub lawful : AllByRecursion (IsLawfulEvent (told_setting say (single table genesis txn faulty))) events
+  pub said : AllByRecursion (IsSaidByFaulty (told_setting say (single table genesis txn faulty))) events
 
 -- the row comes to the same with the operations of its table
 pub record IsReal (say : Txn → Outcome) (d : Document) (events : List Event) : Type 0 where
   pub comes : (messages idle : ℕ) (peers : List ℕ) (outcomes : List (List (List Outcome))) →
       ComesTo (told_setting say d) events messages idle peers outcomes → ComesTo (real_setting d) events messages idle peers outcomes
   pub states : (p : ℕ) → state_at (real_setting d) (end_of (real_setting d) events) p ≡ state_at (told_setting say d) (end_of (told_setting say d) events) p
-  pub halts : (p : ℕ) → halt_of (real_setting d) (end_of (real_setting d) events) p ≡ halt_of (told_setting say d) (end_of (told_setting say d) events) p
+  pub halts : (p : ℕ) → peer_halt (real_setting d) (end_of (real_setting d) events) p ≡ peer_halt (told_setting say d) (end_of (told_setting say d) events) p
   pub lines : text (real_setting d) [] (end_of (real_setting d) events) ≡ text (told_setting say d) [] (end_of (told_setting say d) events)
 
 -- for tame rows, and for those of one transaction
@@ -57,7 +57,7 @@ abbrev pub ScatteredState : Type 0
 ScatteredState = EndsAs (relay p3) (scattered ++ event.Deliver 2 2 ∷ []) 1 1 0
 
 abbrev pub RepeatedVoteState : Type 0
-RepeatedVoteState = EndsAs (two_agents p3 2) repeated 2 10 0
+RepeatedVoteState = EndsAs (two_agents p3 2) repeated_votes 2 10 0
 
 abbrev pub LateBlockState : Type 0
 LateBlockState = EndsAs late_block late 0 2 8

@@ -60,8 +60,8 @@ world_after s turns w (e ∷ rest) = option_and_then (λ u. world_after s turns 
 
 -- TRANSFERS
 
-abbrev pub bank : List ℕ → ℕ → App
-bank agents tau = record { name = codes "bank"; agents = agents; tau = tau; clients = codes "c1" ∷ []; ops = transfer_op ∷ [] }
+abbrev pub bank_app : List ℕ → ℕ → App
+bank_app agents tau = record { name = codes "bank"; agents = agents; tau = tau; clients = codes "c1" ∷ []; ops = transfer_op ∷ [] }
 
 -- the table of the transfer document with these orderers, peers and applications
 abbrev pub transfers : List Name → ℕ → List Name → List App → Table

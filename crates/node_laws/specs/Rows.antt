@@ -13,33 +13,33 @@ use Rattle.oxii_defs.specs.Syntax.{Name}
 use Rattle.oxii_defs.specs.Table.{App, Table}
 use Rattle.oxii_defs.specs.State.{State}
 use Rattle.oxii_defs.specs.Lines.{Entry}
-use Rattle.node_defs.specs.Ledger.{ledger, heard, state_of, Halt, halt}
+use Rattle.node_defs.specs.Ledger.{ledger, heard, ledger_state, Halt, halt}
 use Rattle.node_defs.specs.World.{World, Setting, start, log_of}
-use Rattle.node_laws.specs.RowSettings.{Document, world_after, transfers, bank, copier, copy_txn, ten, one, leaves, transfer_body, config_body, says_commit, o1, p1, p2, p3, p4}
+use Rattle.node_laws.specs.RowSettings.{Document, world_after, transfers, bank_app, copier, copy_txn, ten, one, leaves, transfer_body, config_body, says_commit, o1, p1, p2, p3, p4}
 
 -- the world at the end of a schedule
 abbrev pub end_of : Setting → List Event → World
 end_of s events = unwrap_or (world_after s 9 (start s) events) (start s)
 
-abbrev pub Ends : Setting → List Event → Type 0
-Ends s events = is_some (world_after s 9 (start s) events) ≡ true
+abbrev pub EndsInTime : Setting → List Event → Type 0
+EndsInTime s events = is_some (world_after s 9 (start s) events) ≡ true
 
-abbrev pub ledger_of : Setting → World → ℕ → List Entry
-ledger_of s w p = ledger s.rules p (heard s.rules p (log_of w p))
+abbrev pub peer_ledger : Setting → World → ℕ → List Entry
+peer_ledger s w p = ledger s.rules p (heard s.rules p (log_of w p))
 
 -- the outcomes of the blocks that a peer completed, the latest first
 abbrev pub outcomes_of : Setting → World → ℕ → List (List Outcome)
-outcomes_of s w p = map (λ e. e.outcomes) (ledger_of s w p)
+outcomes_of s w p = map (λ e. e.outcomes) (peer_ledger s w p)
 
 abbrev pub state_at : Setting → World → ℕ → State
-state_at s w p = state_of s.rules (ledger_of s w p)
+state_at s w p = ledger_state s.rules (peer_ledger s w p)
 
-abbrev pub halt_of : Setting → World → ℕ → Option Halt
-halt_of s w p = halt s.rules p (log_of w p)
+abbrev pub peer_halt : Setting → World → ℕ → Option Halt
+peer_halt s w p = halt s.rules p (log_of w p)
 
 -- how many messages there are, how many deliveries were idle, and what each of these peers completed
 pub record ComesTo (s : Setting) (events : List Event) (messages idle : ℕ) (peers : List ℕ) (outcomes : List (List (List Outcome))) : Type 0 where
-  pub ended : Ends s events
+  pub ended : EndsInTime s events
   pub sent : length (end_of s events).pool ≡ messages
   pub unheard : (end_of s events).idle ≡ idle
   pub ledgers : map (outcomes_of s (end_of s events)) peers ≡ outcomes
@@ -88,7 +88,7 @@ Scattered way = ComesTo (way (relay p3)) (scattered ++ event.Deliver 2 2 ∷ [])
 -- TWO AGENTS: each runs all three transfers, and sends one COMMIT
 
 abbrev pub two_agents : List Name → ℕ → Document
-two_agents peers tau = record { table = transfers o1 1 peers (bank (0 ∷ 1 ∷ []) tau ∷ []); genesis = ten; bodies = transfer_body (1 ∷ 2 ∷ 3 ∷ []) ∷ []; faulty = [] }
+two_agents peers tau = record { table = transfers o1 1 peers (bank_app (0 ∷ 1 ∷ []) tau ∷ []); genesis = ten; bodies = transfer_body (1 ∷ 2 ∷ 3 ∷ []) ∷ []; faulty = [] }
 
 abbrev pub three_transfers : List (List Outcome)
 three_transfers = (leaves 9 ∷ leaves 7 ∷ leaves 4 ∷ []) ∷ []
@@ -98,11 +98,11 @@ TwoAgents way = ComesTo (way (two_agents p2 2)) (event.All ∷ []) 3 0 (0 ∷ 1 
 
 -- REPEATED VOTE: one vote, five times, is one vote
 
-abbrev pub repeated : List Event
-repeated = event.Deliver 1 0 ∷ event.Deliver 1 2 ∷ event.Deliver 2 2 ∷ event.Deliver 2 2 ∷ event.Deliver 2 2 ∷ event.Deliver 2 2 ∷ event.Deliver 2 2 ∷ []
+abbrev pub repeated_votes : List Event
+repeated_votes = event.Deliver 1 0 ∷ event.Deliver 1 2 ∷ event.Deliver 2 2 ∷ event.Deliver 2 2 ∷ event.Deliver 2 2 ∷ event.Deliver 2 2 ∷ event.Deliver 2 2 ∷ []
 
 abbrev pub RepeatedVote : (Document → Setting) → Type 0
-RepeatedVote way = ComesTo (way (two_agents p3 2)) repeated 2 0 (0 ∷ 1 ∷ 2 ∷ []) ([] ∷ [] ∷ [] ∷ [])
+RepeatedVote way = ComesTo (way (two_agents p3 2)) repeated_votes 2 0 (0 ∷ 1 ∷ 2 ∷ []) ([] ∷ [] ∷ [] ∷ [])
 
 -- ONE OF TWO AGENTS: where one vote is enough, no peer waits for the second agent
 
@@ -110,13 +110,13 @@ abbrev pub one_transfer : List Name → List App → List Node → Document
 one_transfer peers apps faulty = record { table = transfers o1 1 peers apps; genesis = ten; bodies = transfer_body (4 ∷ []) ∷ []; faulty = faulty }
 
 abbrev pub OneOfTwoAgents : (Document → Setting) → Type 0
-OneOfTwoAgents way = ComesTo (way (one_transfer p3 (bank (0 ∷ 1 ∷ []) 1 ∷ []) [])) (event.Deliver 1 0 ∷ event.Deliver 1 2 ∷ event.Deliver 2 2 ∷ []) 2 0 (0 ∷ 1 ∷ 2 ∷ [])
+OneOfTwoAgents way = ComesTo (way (one_transfer p3 (bank_app (0 ∷ 1 ∷ []) 1 ∷ []) [])) (event.Deliver 1 0 ∷ event.Deliver 1 2 ∷ event.Deliver 2 2 ∷ []) 2 0 (0 ∷ 1 ∷ 2 ∷ [])
     (((leaves 6 ∷ []) ∷ []) ∷ [] ∷ ((leaves 6 ∷ []) ∷ []) ∷ [])
 
 -- LATE BLOCK: the second block comes first
 
 abbrev pub late_block : Document
-late_block = record { table = transfers o1 1 p2 (bank (0 ∷ []) 1 ∷ []); genesis = ten; bodies = transfer_body (4 ∷ []) ∷ transfer_body (4 ∷ []) ∷ []; faulty = [] }
+late_block = record { table = transfers o1 1 p2 (bank_app (0 ∷ []) 1 ∷ []); genesis = ten; bodies = transfer_body (4 ∷ []) ∷ transfer_body (4 ∷ []) ∷ []; faulty = [] }
 
 abbrev pub late_start : List Event
 late_start = event.Deliver 2 0 ∷ event.Deliver 1 0 ∷ []
@@ -148,7 +148,7 @@ IdleDelivery way = ComesTo (way late_block) (event.Deliver 9 0 ∷ []) 2 1 (0 �
 -- OUTVOTED: one of three agents says something else
 
 abbrev pub three_agents : List Node → Document
-three_agents faulty = one_transfer p4 (bank (0 ∷ 1 ∷ 2 ∷ []) 2 ∷ []) faulty
+three_agents faulty = one_transfer p4 (bank_app (0 ∷ 1 ∷ 2 ∷ []) 2 ∷ []) faulty
 
 abbrev pub moved : List (List Outcome)
 moved = (leaves 6 ∷ []) ∷ []
@@ -168,13 +168,13 @@ lies = says_commit 1 1 (leaves 0) ∷ says_commit 2 1 (leaves 0) ∷ event.All �
 
 pub record FalseMajority (way : Document → Setting) : Type 0 where
   pub comes : ComesTo (way false_majority) lies 4 0 (0 ∷ 3 ∷ []) ([] ∷ ((leaves 0 ∷ []) ∷ []) ∷ [])
-  pub halts : halt_of (way false_majority) (end_of (way false_majority) lies) 0 ≡ Some (record { n = 1; t = 0; writes = 0 ∷ 1 ∷ []; ran = leaves 6; voted = leaves 0 })
-  pub goes_on : halt_of (way false_majority) (end_of (way false_majority) lies) 3 ≡ None
+  pub halts : peer_halt (way false_majority) (end_of (way false_majority) lies) 0 ≡ Some (record { n = 1; t = 0; writes = 0 ∷ 1 ∷ []; ran = leaves 6; voted = leaves 0 })
+  pub goes_on : peer_halt (way false_majority) (end_of (way false_majority) lies) 3 ≡ None
 
 -- FALSE ORDERER: one orderer of three turns the block round, and sends a wrong graph
 
 abbrev pub false_orderer : Document
-false_orderer = record { table = transfers (codes "o1" ∷ codes "o2" ∷ codes "o3" ∷ []) 2 p1 (bank (0 ∷ []) 1 ∷ []); genesis = ten; bodies = transfer_body (4 ∷ 1 ∷ []) ∷ []; faulty = Orderer 2 ∷ [] }
+false_orderer = record { table = transfers (codes "o1" ∷ codes "o2" ∷ codes "o3" ∷ []) 2 p1 (bank_app (0 ∷ []) 1 ∷ []); genesis = ten; bodies = transfer_body (4 ∷ 1 ∷ []) ∷ []; faulty = Orderer 2 ∷ [] }
 
 abbrev pub two_blocks_said : List Event
 two_blocks_said =
@@ -188,7 +188,7 @@ FalseOrderer way = ComesTo (way false_orderer) two_blocks_said 5 0 (0 ∷ []) ((
 -- UNFIT VOTES: a vote that doesn't fit, and a vote of another application's agent
 
 abbrev pub unfit_votes : Document
-unfit_votes = one_transfer p4 (bank (0 ∷ 2 ∷ []) 1 ∷ copier (codes "k") (1 ∷ []) ∷ []) (Peer 1 ∷ Peer 2 ∷ [])
+unfit_votes = one_transfer p4 (bank_app (0 ∷ 2 ∷ []) 1 ∷ copier (codes "k") (1 ∷ []) ∷ []) (Peer 1 ∷ Peer 2 ∷ [])
 
 abbrev pub UnfitVotes : (Document → Setting) → Type 0
 UnfitVotes way = ComesTo (way unfit_votes)
@@ -207,7 +207,7 @@ abbrev pub to_p2 : Body
 to_p2 = config_body (record { app = 0; agents = 1 ∷ []; tau = 1 })
 
 abbrev pub change_of_agents : Document
-change_of_agents = record { table = transfers o1 1 p2 (bank (0 ∷ []) 1 ∷ []); genesis = ten; bodies = transfer_body (4 ∷ []) ∷ to_p2 ∷ transfer_body (4 ∷ []) ∷ []; faulty = [] }
+change_of_agents = record { table = transfers o1 1 p2 (bank_app (0 ∷ []) 1 ∷ []); genesis = ten; bodies = transfer_body (4 ∷ []) ∷ to_p2 ∷ transfer_body (4 ∷ []) ∷ []; faulty = [] }
 
 abbrev pub around_config : List (List Outcome)
 around_config = (leaves 2 ∷ []) ∷ [] ∷ (leaves 6 ∷ []) ∷ []
@@ -218,7 +218,7 @@ ChangeOfAgents way = ComesTo (way change_of_agents) (event.All ∷ []) 5 0 (0 �
 -- RETIRED AGENT: the vote of an agent that a configuration retired counts for nothing
 
 abbrev pub retired_agent : Document
-retired_agent = record { table = transfers o1 1 p2 (bank (0 ∷ []) 1 ∷ []); genesis = ten; bodies = to_p2 ∷ transfer_body (4 ∷ []) ∷ []; faulty = Peer 0 ∷ [] }
+retired_agent = record { table = transfers o1 1 p2 (bank_app (0 ∷ []) 1 ∷ []); genesis = ten; bodies = to_p2 ∷ transfer_body (4 ∷ []) ∷ []; faulty = Peer 0 ∷ [] }
 
 abbrev pub RetiredAgent : (Document → Setting) → Type 0
 RetiredAgent way = ComesTo (way retired_agent) (says_commit 0 2 (leaves 0) ∷ event.All ∷ []) 4 0 (1 ∷ []) (((leaves 6 ∷ []) ∷ [] ∷ []) ∷ [])
@@ -245,7 +245,7 @@ KnownAncestor way = ComesTo (way three_in_turn) (second_vote ∷ event.Deliver 1
 -- OFF THE CHAIN: a block whose previous hash isn't that of the peer's block before it is not accepted, whatever its quorum
 
 abbrev pub off_the_chain : Document
-off_the_chain = record { table = transfers o1 1 p1 (bank (0 ∷ []) 1 ∷ []); genesis = ten; bodies = transfer_body (4 ∷ []) ∷ []; faulty = Orderer 0 ∷ [] }
+off_the_chain = record { table = transfers o1 1 p1 (bank_app (0 ∷ []) 1 ∷ []); genesis = ten; bodies = transfer_body (4 ∷ []) ∷ []; faulty = Orderer 0 ∷ [] }
 
 abbrev pub OffTheChain : (Document → Setting) → Type 0
 OffTheChain way = ComesTo (way off_the_chain) (event.SayBlock (Orderer 0) 1 (Some (replicate 32 1)) (0 ∷ []) None ∷ event.All ∷ []) 1 0 (0 ∷ []) ([] ∷ [])

@@ -1,10 +1,11 @@
 //! The laws of the protocol: growth, conflict order, cutting and agreement.
 #![tactic(auto)]
 
+ghost use Rattle.node_laws.specs.Admissions.{AdmissionIsMeant};
 ghost use Rattle.node_laws.specs.Agreement.{Agreement, SerialPart};
 ghost use Rattle.node_laws.specs.ConflictOrder.{ConflictOrder};
 ghost use Rattle.node_laws.specs.Growth.{Growth};
-ghost use Rattle.node_laws.specs.LawfulBodies.{LawfulBodies};
+ghost use Rattle.node_laws.specs.LawfulBodies.{LawfulBodies, LawfulPieces, NamedItemsMakeLawfulBodies};
 ghost use Rattle.node_laws.specs.OneCutting.{ExactlyOneCutting, OneCutting};
 ghost use Rattle.node_laws.specs.OneText.{OneText};
 ghost use Rattle.node_laws.specs.OneWorld.{AllEnds, OneWorld};
@@ -25,9 +26,24 @@ pub fn one_cutting()
     ensures { OneCutting }
 {}
 
+/// With a lawful table, the answer to a request is the one that the rule gives, and no other is.
+pub fn admission_is_meant()
+    ensures { AdmissionIsMeant }
+{}
+
 /// With lawful limits and a lawful stream, the bodies of agreed blocks are lawful.
 pub fn lawful_bodies()
     ensures { LawfulBodies }
+{}
+
+/// What the items of a lawful stream carry is lawful.
+pub fn lawful_pieces()
+    ensures { LawfulPieces }
+{}
+
+/// The items that a false block may name make a lawful body.
+pub fn named_items_make_lawful_bodies()
+    ensures { NamedItemsMakeLawfulBodies }
 {}
 
 /// Whatever is lost, repeated or reordered: where the input is tame, each vote, accepted block and known outcome is the chain's, and no peer is halted.

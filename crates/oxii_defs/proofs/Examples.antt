@@ -17,6 +17,7 @@ use Rattle.txn_types.specs.declared.txn.Reason.TheVariants as reason
 use Rattle.txn_types.specs.declared.txn.Txn.{Txn}
 use Rattle.txn_types.specs.declared.txn.Outcome.TheVariants.{Commit, Abort}
 use Rattle.txn_types.specs.declared.txn.Kind.TheVariants.{Full, Raw}
+use Rattle.txn_types.specs.Values.{max_value}
 
 -- the stock contract
 abbrev set : Stmts
@@ -72,7 +73,7 @@ pub maybe_not : outcome maybe (txn (a ∷ arg.Num 2 ∷ []) [] (0 ∷ [])) (only
 unfolding run after value_of truth_of
 maybe_not = simp gets
 
-pub overflows : outcome inc (txn (a ∷ []) (0 ∷ []) (0 ∷ [])) (only_a 4611686018427387903) ≡ Abort reason.Overflow
+pub overflows : outcome inc (txn (a ∷ []) (0 ∷ []) (0 ∷ [])) (only_a max_value) ≡ Abort reason.Overflow
 unfolding run after value_of truth_of
 overflows = simp gets
 

@@ -1,23 +1,21 @@
 -- How long a transaction's bytes are at most.
-use Rattle.std.specs.Prelude.{ℕ, suc, ◌+◌, ◌*◌, ◌≤◌, ◌<◌, ◌++◌, List, [], ◌∷◌, length, map}
+use Rattle.std.specs.Prelude.{ℕ, ◌*◌, ◌≤◌, ◌<◌, ◌++◌, List, [], length, map}
 use Rattle.std.specs.List.{All, flat_map, slice_index_or}
-use Rattle.std.specs.Int.{w64, to_be_bytes}
-use Rattle.std.proofs.Common.{◌≡◌, ◌⊎◌, inl, inr, refl, sym, ◌∙◌, ap, subst, arith}
+use Rattle.std.proofs.Common.{◌⊎◌, inl, inr, sym, subst, arith}
 use Rattle.std.proofs.lemmas.Bool.{cases_lt}
 use Rattle.std.proofs.lemmas.List.{get_or_past}
 use Rattle.std.proofs.lemmas.List.Concat.{length-flat_map}
 use Rattle.std.proofs.lemmas.List.Sums.{sum_by-le}
-use Rattle.std.proofs.lemmas.List.Elements.{All-get_or, All-map}
+use Rattle.std.proofs.lemmas.List.Elements.{All-map}
 use Rattle.std.proofs.lemmas.List.{length-append}
 use Rattle.txn_types.specs.Names.{IsName}
 use Rattle.txn_types.specs.declared.txn.Arg.{Arg}
 use Rattle.txn_types.specs.declared.txn.Arg.TheVariants.{Rec, Num}
-use Rattle.txn_types.specs.declared.txn.Txn.{Txn}
 use Rattle.oxii_defs.specs.Syntax.{Name, Op}
 use Rattle.oxii_defs.specs.Table.{App, Table}
-use Rattle.oxii_defs.specs.Lawful.{IsLawfulApp, IsLawfulTable}
-use Rattle.oxii_defs.specs.BlockBytes.{record_name, app_name, ops_of, op_name, name_bytes, arg_bytes, args_bytes, records_bytes, txn_bytes}
-use Rattle.oxii_defs.specs.Laws.{IsHeld, TxnsAreShort}
+use Rattle.oxii_defs.specs.Lawful.{IsLawfulTable}
+use Rattle.oxii_defs.specs.BlockBytes.{record_name, app_name, ops_of, op_name, name_bytes, arg_bytes, args_bytes, records_bytes}
+use Rattle.oxii_defs.specs.Laws.{TxnsAreShort}
 
 -- what holds of each item and of the default holds of what is read
 at_any : {X : Type 0} (P : X → Type 0) (xs : List X) (i : ℕ) (d : X) → All P xs → P d → P (slice_index_or xs i d)

@@ -1,19 +1,26 @@
 -- Laws over the definitions.
-use Rattle.std.specs.Prelude.{◌≡◌, ◌≤◌, ◌⊎◌, ℕ, length, map}
+use Rattle.std.specs.Prelude.{◌≡◌, ◌≤◌, ◌⊎◌, ◌↔◌, ℕ, suc, ◌+◌, List, [], length, map, filter, get_or, Some, slice_get}
+use Rattle.std.specs.List.{range_with_len}
 use Rattle.std.specs.FinMap as map
 use Rattle.std.specs.Ordering.{nat_cmp}
 use Rattle.oxii_defs.specs.Syntax.{Stmts, Op}
 use Rattle.oxii_defs.specs.State.{State, value_in, IsState}
 use Rattle.oxii_defs.specs.WellFormed.{IsWellFormed, Match}
-use Rattle.oxii_defs.specs.Meaning.{Ends, Aborts}
-use Rattle.oxii_defs.specs.Outcomes.{outcome, apply}
+use Rattle.oxii_defs.specs.Meaning.{Ends, Aborts, HasOutcome}
+use Rattle.oxii_defs.specs.Outcomes.{outcome, apply, serial_state, serial_outcomes}
+use Rattle.oxii_defs.specs.Dependency.{depends, graph_of}
+use Rattle.oxii_defs.specs.Lines.{serial_part}
+use Rattle.oxii_defs.specs.SerialRuns.{RunsSerially, IsSerialPart}
 use Rattle.oxii_defs.specs.Table.{Table}
 use Rattle.oxii_defs.specs.Lawful.{IsLawfulTable}
-use Rattle.oxii_defs.specs.BlockBytes.{txn_bytes}
+use Rattle.oxii_defs.specs.BlockBytes.{txn_bytes, block_hash}
+use Rattle.oxii_defs.specs.Chain.{chain, no_hash}
 use Rattle.txn_types.specs.declared.txn.Reason.{Reason}
 use Rattle.txn_types.specs.declared.txn.Txn.{Txn}
 use Rattle.txn_types.specs.declared.txn.Outcome.{Outcome}
-use Rattle.txn_types.specs.declared.txn.Outcome.TheVariants.{Commit, Abort}
+use Rattle.txn_types.specs.declared.txn.Kind.{Kind}
+use Rattle.txn_types.specs.declared.block.Block.{Block}
+use Rattle.txn_types.specs.declared.block.Body.{Body}
 use Rattle.txn_types.specs.Fitting.{Fits}
 
 -- exactly one of the two holds, for exactly one result
@@ -26,13 +33,42 @@ pub record IsDecided (body : Stmts) (t : Txn) (s : State) : Type 0 where
 abbrev pub CallsAreDecided : Type 0
 CallsAreDecided = (body : Stmts) (t : Txn) (s : State) → IsDecided body t s
 
--- the outcome is the commit of what the body wrote where it ends, and the abort where it stops
-pub record IsOutcome (body : Stmts) (t : Txn) (s : State) : Type 0 where
-  pub commits : (w : map.FinMap nat_cmp ℕ) → Ends body t s w → outcome body t s ≡ Commit (map (map.get w) t.writes)
-  pub aborts : (r : Reason) → Aborts body t s r → outcome body t s ≡ Abort r
-
+-- the program that runs a body gives what the relations say, and nothing else
 abbrev pub OutcomesAreMeant : Type 0
-OutcomesAreMeant = (body : Stmts) (t : Txn) (s : State) → IsOutcome body t s
+OutcomesAreMeant = (body : Stmts) (t : Txn) (s : State) (o : Outcome) → HasOutcome body t s o ↔ (o ≡ outcome body t s)
+
+-- the serial run is that of the relations, and no other is
+abbrev pub SerialRunsAreMeant : Type 0
+SerialRunsAreMeant = (table : Table) (s : State) (txns : List Txn) (outcomes : List Outcome) (u : State) →
+    RunsSerially table s txns outcomes u ↔ ((outcomes ≡ serial_outcomes table s txns) × (u ≡ serial_state table s txns))
+
+-- the lines of the serial run of blocks are those of the relations, and no others are
+abbrev pub SerialPartsAreMeant : Type 0
+SerialPartsAreMeant = (table : Table) (genesis : State) (peer : ℕ) (blocks : List Block) (lines : List ℕ) →
+    IsSerialPart table genesis peer blocks lines ↔ (lines ≡ serial_part table genesis peer blocks)
+
+-- a graph has a list for each position: of the positions before it those on which it depends, in order
+pub record IsGraph (kind : Kind) (txns : List Txn) (preds : List (List ℕ)) : Type 0 where
+  pub one_each : length preds ≡ length txns
+  pub pairs : (j : ℕ) (later : Txn) → slice_get txns j ≡ Some later →
+      get_or preds j [] ≡ filter (λ i. depends kind (get_or txns i later) later) (range_with_len 0 j)
+
+abbrev pub GraphsAreMeant : Type 0
+GraphsAreMeant = (kind : Kind) (txns : List Txn) → IsGraph kind txns (graph_of kind txns)
+
+-- what a block carries
+abbrev pub body_in_block : Block → Body
+body_in_block b = record { txns = b.txns; config = b.config }
+
+-- the blocks carry these bodies, are numbered from 1, and each has the hash of the one before it
+pub record IsChain (table : Table) (bodies : List Body) (blocks : List Block) : Type 0 where
+  pub carried : bodies ≡ map body_in_block blocks
+  pub numbered : (m : ℕ) (b : Block) → slice_get blocks m ≡ Some b → b.number ≡ m + 1
+  pub first : (b : Block) → slice_get blocks 0 ≡ Some b → b.prev ≡ no_hash
+  pub linked : (m : ℕ) (a b : Block) → slice_get blocks m ≡ Some a → slice_get blocks (suc m) ≡ Some b → b.prev ≡ block_hash table a
+
+abbrev pub ChainsAreMeant : Type 0
+ChainsAreMeant = (table : Table) (bodies : List Body) (blocks : List Block) → IsChain table bodies blocks ↔ (blocks ≡ chain table bodies)
 
 -- an outcome depends on the state at the read set alone
 abbrev pub OutcomesAreLocal : Type 0

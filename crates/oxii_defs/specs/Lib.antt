@@ -12,4 +12,5 @@ pub mod Lawful
 pub mod BlockBytes
 pub mod Chain
 pub mod Lines
+pub mod SerialRuns
 pub mod Transfers

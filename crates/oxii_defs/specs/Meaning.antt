@@ -1,5 +1,5 @@
 -- The operation's meaning, as relations by cases on the syntax: what each form gives, and for which reason it stops.
-use Rattle.std.specs.Prelude.{◌≡◌, ◌≤◌, ◌<◌, ◌⊎◌, ℕ, zero, suc, ◌+◌, ◌*◌, ◌/◌, ◌%◌, Bool, true, false, not, nat_lt, nat_le, ◌==◌, Some, None, slice_index, length}
+use Rattle.std.specs.Prelude.{map as each, ◌≡◌, ◌≤◌, ◌<◌, ◌⊎◌, ℕ, zero, suc, ◌+◌, ◌*◌, ◌/◌, ◌%◌, Bool, true, false, not, nat_lt, nat_le, ◌==◌, Some, None, slice_index, length}
 use Rattle.std.specs.FinMap as map
 use Rattle.std.specs.Ordering.{nat_cmp}
 use Rattle.oxii_defs.specs.Syntax.{Operator, Add, Sub, Mul, Div, Rem, Comparison, Eq, Ne, Lt, Le, Gt, Ge, Expr, Num, Param, Local, Rec, Calc, Cond, Cmp, And, Or, Not, Stmt, Let, SetLocal, SetRec, Require, If, Repeat, Stmts, Done, Then}
@@ -8,6 +8,8 @@ use Rattle.oxii_defs.specs.Calls.{Call, Frame, record_at, number_at, with_local,
 use Rattle.txn_types.specs.declared.txn.Reason.{Reason}
 use Rattle.txn_types.specs.declared.txn.Reason.TheVariants as reason
 use Rattle.txn_types.specs.declared.txn.Txn.{Txn}
+use Rattle.txn_types.specs.declared.txn.Outcome.{Outcome}
+use Rattle.txn_types.specs.declared.txn.Outcome.TheVariants as outcome
 use Rattle.txn_types.specs.Values.{max_value}
 
 -- OPERATORS, on two numbers
@@ -132,3 +134,8 @@ Ends body t s w = (f : Frame) × LeadsAll (call_in s t) body (fresh t.writes) f 
 -- the body stops for the reason r
 abbrev pub Aborts : Stmts → Txn → State → Reason → Type 0
 Aborts body t s r = FailsAll (call_in s t) body (fresh t.writes) r
+
+-- the call comes to this outcome: a commit of the values that the body wrote, where it ends, or an abort, where it stops
+abbrev pub HasOutcome : Stmts → Txn → State → Outcome → Type 0
+HasOutcome body t s (outcome.Commit entries) = (w : map.FinMap nat_cmp ℕ) × Ends body t s w × (entries ≡ each (map.get w) t.writes)
+HasOutcome body t s (outcome.Abort r) = Aborts body t s r

@@ -3,7 +3,7 @@ use Rattle.std.specs.Prelude.{◌≡◌, ◌≤◌, ◌<◌, ℕ, ◌*◌, List,
 use Rattle.oxii_defs.specs.Syntax.{Name, Expr, Num, Param, Local, Rec, Calc, Cond, Cmp, And, Or, Not, Stmt, Let, SetLocal, SetRec, Require, If, Repeat, Stmts, Done, Then, ParamKind, RecKind, NumKind, Formal, Op}
 use Rattle.txn_types.specs.declared.txn.Arg.{Arg}
 use Rattle.txn_types.specs.declared.txn.Arg.TheVariants as arg
-use Rattle.txn_types.specs.Values.{max_value}
+use Rattle.txn_types.specs.Values.{max_value, max_turns}
 
 -- the parameters, the names of the visible locals, the oldest first, and the product of the enclosing repeat counts
 pub record Scope : Type 0 where
@@ -47,7 +47,7 @@ abbrev mutual
   IsFine scope (SetRec i e) = HasKind scope.params i RecKind × IsFineExpr scope e
   IsFine scope (Require p) = IsFineCond scope p
   IsFine scope (If p first second) = IsFineCond scope p × AllFine scope first × AllFine scope second
-  IsFine scope (Repeat count body) = (0 < count) × (count ≤ 64) × (scope.turns * count ≤ 1024) × AllFine (repeated scope count) body
+  IsFine scope (Repeat count body) = (0 < count) × (count ≤ 64) × (scope.turns * count ≤ max_turns) × AllFine (repeated scope count) body
 
   pub AllFine : Scope → Stmts → Type 0
   AllFine scope Done = Unit {0}

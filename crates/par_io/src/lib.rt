@@ -1,7 +1,6 @@
 //! Where bytes come from and where they go: sources and sinks that count their faults.
 #![tactic(auto)]
 
-mod bytes;
 mod failing;
 mod mem_sink;
 mod mem_source;
@@ -11,7 +10,7 @@ mod std_sink;
 mod std_source;
 mod sure;
 
-pub use bytes::{Bytes, OutOfMemory};
+pub use growing_list::{Bytes, OutOfMemory};
 pub use mem_sink::MemSink;
 pub use mem_source::MemSource;
 pub use sink::{Sink, write_all};

@@ -85,17 +85,3 @@ fn adapts_std(rt: HostRuntime) -> Result<(), Fail> {
     assert_eq!(rt; small.as_slice(), b"hel".as_slice());
     Ok(())
 }
-
-/// Each call of the growing list, with ample memory.
-#[test]
-fn grows(rt: HostRuntime) -> Result<(), Fail> {
-    let mut bytes = Bytes::new(rt.alloc());
-    assert_eq!(rt; bytes.pop(), None);
-    bytes.push(1).map_err(|_| "push")?;
-    bytes.append(&[2, 3]).map_err(|_| "append")?;
-    bytes.set(0, 9);
-    assert_eq!(rt; bytes.pop(), Some(3));
-    assert_eq!(rt; bytes.as_slice(), [9u8, 2].as_slice());
-    assert_eq!(rt; bytes.len(), 2);
-    Ok(())
-}

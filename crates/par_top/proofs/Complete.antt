@@ -15,8 +15,8 @@ use Rattle.par_top.specs.declared.status.Status.{Status}
 use Rattle.par_top.specs.declared.status.Status.TheVariants as status
 use Rattle.par_top.specs.declared.command.Command.{Command}
 use Rattle.par_top.specs.Commands.{Takes}
-use Rattle.par_top.specs.Faults.{HasFault}
-use Rattle.par_top.specs.Top.{HasRead, IsHeadline, IsPart, IsRefusal, IsRefusedFor, refusal, document_limit, too_long}
+use Rattle.par_top.specs.Faults.{HasFaultFor}
+use Rattle.par_top.specs.Top.{HasRead, IsHeadline, IsWrittenPart, IsRefusal, IsRefusedFor, refusal, document_limit, too_long}
 
 -- what was read to the end of a source that tells its bytes is all of them
 all_read : (bytes taken : List ℕ) (new : Option (List ℕ)) → Consumes (Some bytes) new taken → IsAtEnd new → taken ≡ bytes
@@ -28,7 +28,7 @@ no_more bytes taken None consumed = absurd consumed
 no_more bytes taken (Some rest) consumed = omega (arith, length-append taken rest, ap length consumed)
 
 -- bytes that mean an input have no fault
-no_fault : (command : Command) (bytes : List ℕ) (input : Input) (f : DocFault) → ExactlyOne bytes → Means bytes input → Takes command input → HasFault command bytes f → ⊥
+no_fault : (command : Command) (bytes : List ℕ) (input : Input) (f : DocFault) → ExactlyOne bytes → Means bytes input → Takes command input → HasFaultFor command bytes f → ⊥
 no_fault command bytes input fault.NotJson once means taken h = once.not_both input _ means h
 no_fault command bytes input (fault.Field path) once means taken h = once.not_both input _ means h
 no_fault command bytes input (fault.Limit which limit) once means taken h = once.not_both input _ means h
@@ -46,7 +46,7 @@ no_fault command bytes input fault.OutOfMemory once means taken h = h
 no_refusal : (command : Command) (bytes : List ℕ) (new : Option (List ℕ)) (input : Input) (f : DocFault) → ((bytes : List ℕ) → ExactlyOne bytes) → length bytes ≤ document_limit → Means bytes input → Takes command input → IsRefusal command (Some bytes) new f → ⊥
 no_refusal command bytes new input f once short means taken (inl long) = omega (arith, no_more bytes long.1.0 new long.1.1, long.1.2)
 no_refusal command bytes new input f once short means taken (inr is) =
-    no_fault command bytes input f (once bytes) means taken (subst (λ (xs : List ℕ). HasFault command xs f) (all_read bytes is.bytes new is.read.taken is.read.end) is.is)
+    no_fault command bytes input f (once bytes) means taken (subst (λ (xs : List ℕ). HasFaultFor command xs f) (all_read bytes is.bytes new is.read.taken is.read.end) is.is)
 
 -- each other status has a cause that is not there
 pub is_answered : (command : Command) (result : Status) (old new : Option (List ℕ)) (bytes : List ℕ) (input : Input) (source source_new sink sink_new : ℕ)
@@ -67,7 +67,7 @@ is_answered command status.WriteFault old new bytes input s s' k k' once told sh
 
 -- bytes with a meaning that the command doesn't take
 
-another_fault : (command : Command) (bytes : List ℕ) (input : Input) (f : DocFault) → ExactlyOne bytes → Means bytes input → HasFault command bytes f → f ≡ fault.NotYet
+another_fault : (command : Command) (bytes : List ℕ) (input : Input) (f : DocFault) → ExactlyOne bytes → Means bytes input → HasFaultFor command bytes f → f ≡ fault.NotYet
 another_fault command bytes input fault.NotJson once means h = absurd (once.not_both input _ means h)
 another_fault command bytes input (fault.Field path) once means h = absurd (once.not_both input _ means h)
 another_fault command bytes input (fault.Limit which limit) once means h = absurd (once.not_both input _ means h)
@@ -85,7 +85,7 @@ another_fault command bytes input fault.OutOfMemory once means h = absurd h
 not_yet : (command : Command) (bytes : List ℕ) (new : Option (List ℕ)) (input : Input) (f : DocFault) → ExactlyOne bytes → length bytes ≤ document_limit → Means bytes input → IsRefusal command (Some bytes) new f → f ≡ fault.NotYet
 not_yet command bytes new input f once short means (inl long) = absurd (omega (arith, no_more bytes long.1.0 new long.1.1, long.1.2))
 not_yet command bytes new input f once short means (inr is) =
-    another_fault command bytes input f once means (subst (λ (xs : List ℕ). HasFault command xs f) (all_read bytes is.bytes new is.read.taken is.read.end) is.is)
+    another_fault command bytes input f once means (subst (λ (xs : List ℕ). HasFaultFor command xs f) (all_read bytes is.bytes new is.read.taken is.read.end) is.is)
 
 -- what a document that is printed means is taken
 was_taken : (command : Command) (old new : Option (List ℕ)) (bytes lines : List ℕ) (input : Input) → ExactlyOne bytes → old ≡ Some bytes → Means bytes input → HasRead command old new lines → Takes command input
@@ -100,7 +100,7 @@ pub is_other : (command : Command) (result : Status) (old new written written_ne
     → (result ≡ status.Usage → ⊥)
     → ((f : DocFault) → result ≡ status.Refused f → IsRefusal command old new f)
     → (result ≡ status.ReadFault → Rose source source_new)
-    → (result ≡ status.WriteFault → IsPart command old new written written_new)
+    → (result ≡ status.WriteFault → IsWrittenPart command old new written written_new)
     → (result ≡ status.Refused fault.NotYet) ⊎ (result ≡ status.OutOfMemory)
 is_other command status.Ok old new w w' bytes input s s' once told short means other read ok usage refused read_fault part =
     absurd (other (was_taken command old new bytes (ok refl).lines input once told means (ok refl).read))
@@ -117,7 +117,7 @@ is_other command status.WriteFault old new w w' bytes input s s' once told short
 
 -- bytes with a fault
 
-the_fault : (command : Command) (bytes : List ℕ) (told : Fault) (f : DocFault) → ExactlyOne bytes → reading bytes ≡ Err told → HasFault command bytes f → Fails f (refusal told)
+the_fault : (command : Command) (bytes : List ℕ) (told : Fault) (f : DocFault) → ExactlyOne bytes → reading bytes ≡ Err told → HasFaultFor command bytes f → Fails f (refusal told)
 the_fault command bytes told fault.NotJson once is h = sym is ∙ h
 the_fault command bytes told (fault.Field path) once is h = sym is ∙ h
 the_fault command bytes told (fault.Limit which limit) once is h = sym is ∙ h
@@ -135,7 +135,7 @@ the_fault command bytes told fault.OutOfMemory once is h = absurd h
 refused_so : (command : Command) (bytes : List ℕ) (new : Option (List ℕ)) (told : Fault) (f : DocFault) → ExactlyOne bytes → length bytes ≤ document_limit → reading bytes ≡ Err told → IsRefusal command (Some bytes) new f → Fails f (refusal told)
 refused_so command bytes new told f once short is (inl long) = absurd (omega (arith, no_more bytes long.1.0 new long.1.1, long.1.2))
 refused_so command bytes new told f once short is (inr at) =
-    the_fault command bytes told f once is (subst (λ (xs : List ℕ). HasFault command xs f) (all_read bytes at.bytes new at.read.taken at.read.end) at.is)
+    the_fault command bytes told f once is (subst (λ (xs : List ℕ). HasFaultFor command xs f) (all_read bytes at.bytes new at.read.taken at.read.end) at.is)
 
 -- a document that is printed has no fault
 was_faultless : (command : Command) (old new : Option (List ℕ)) (bytes lines : List ℕ) (told : Fault) → ExactlyOne bytes → old ≡ Some bytes → reading bytes ≡ Err told → HasRead command old new lines → ⊥
@@ -150,7 +150,7 @@ pub is_faulty : (command : Command) (result : Status) (old new written written_n
     → (result ≡ status.Usage → ⊥)
     → ((f : DocFault) → result ≡ status.Refused f → IsRefusal command old new f)
     → (result ≡ status.ReadFault → Rose source source_new)
-    → (result ≡ status.WriteFault → IsPart command old new written written_new)
+    → (result ≡ status.WriteFault → IsWrittenPart command old new written written_new)
     → IsRefusedFor result told ⊎ (result ≡ status.OutOfMemory)
 is_faulty command status.Ok old new w w' bytes told s s' once is short fault read ok usage refused read_fault part =
     absurd (was_faultless command old new bytes (ok refl).lines told once is fault (ok refl).read)
@@ -181,7 +181,7 @@ pub is_long : (command : Command) (result : Status) (old new written written_new
     → (result ≡ status.Usage → ⊥)
     → ((f : DocFault) → result ≡ status.Refused f → IsRefusal command old new f)
     → (result ≡ status.ReadFault → Rose source source_new)
-    → (result ≡ status.WriteFault → IsPart command old new written written_new)
+    → (result ≡ status.WriteFault → IsWrittenPart command old new written written_new)
     → (result ≡ status.Refused too_long) ⊎ (result ≡ status.OutOfMemory)
 is_long command status.Ok old new w w' bytes s s' told long read ok usage refused read_fault part =
     absurd (was_short command old new bytes (ok refl).lines told long (ok refl).read)

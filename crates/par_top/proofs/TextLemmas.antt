@@ -1,13 +1,14 @@
 -- The text of a document, part by part.
-use Rattle.std.proofs.Common.{◌≡◌, ◌≤◌, ℕ, ◌*◌, List, [], ◌++◌, length, sym, ap, subst, ◌∙◌, append_assoc}
+use Rattle.std.proofs.Common.{◌≡◌, ◌≤◌, ℕ, ◌*◌, List, [], ◌++◌, length, refl, sym, ap, subst, ◌∙◌, append_assoc}
 use Rattle.std.specs.List.{All, flat_map}
 use Rattle.txn_types.specs.declared.block.Block.{Block}
 use Rattle.txn_types.specs.declared.stream.Item.{Item}
 use Rattle.txn_types.specs.declared.stream.Rejected.{Rejected}
 use Rattle.oxii_defs.specs.State.{State}
 use Rattle.oxii_defs.specs.Table.{Table}
-use Rattle.oxii_defs.specs.Chain.{IsLawfulBlock}
+use Rattle.oxii_defs.specs.Chain.{IsLawfulBlock, chain}
 use Rattle.oxii_defs.specs.Lines.{entry_lines, ledger_of, state_after, state_lines, peer_line, serial_part, blocks_line, tail_lines}
+use Rattle.oxii_defs.proofs.Serially.{serial_parts}
 use Rattle.node_defs.specs.Admission.{IsLawfulItem}
 use Rattle.node_defs.specs.Cutting.{AreAgreed, rejected_from}
 use Rattle.node_defs.specs.Text.{rejected_line}
@@ -45,13 +46,18 @@ pub run_text_is : (input : Input) (items : List Item) (rejected : List Rejected)
 run_text_is input items rejected blocks all count values empty first second third same told agreed listed counted start none front part tail = record {
   bodies = agreed.bodies;
   agreed = subst (λ (xs : List Item). AreAgreed input.table input.limits xs agreed.bodies) same agreed.agreed;
+  part = part_of (chain input.table agreed.bodies);
+  run = (serial_parts input.table (state_of input.genesis) 0 (chain input.table agreed.bodies) (part_of (chain input.table agreed.bodies))).1 refl;
   are = parts (flat_map rejected_line rejected) (flat_map rejected_line (rejected_from input.table 0 input.items)) (blocks_line count) (serial_part input.table (state_of values) 0 all) (tail_lines (2 * count) 0)
       none front part tail (ap (flat_map rejected_line) (told ∙ ap (rejected_from input.table 0) same))
       ∙ ap (λ (n : ℕ). ((flat_map rejected_line (rejected_from input.table 0 input.items) ++ blocks_line n) ++ serial_part input.table (state_of values) 0 all) ++ tail_lines (2 * n) 0) counted
       ∙ ap (λ (vs : List ℕ). ((flat_map rejected_line (rejected_from input.table 0 input.items) ++ blocks_line (length all)) ++ serial_part input.table (state_of vs) 0 all) ++ tail_lines (2 * length all) 0) start
-      ∙ ap (lines_of input) (listed ∙ agreed.linked);
+      ∙ ap (λ (bs : List Block). lines_of input bs (part_of bs)) (listed ∙ agreed.linked);
 }
   where
+    part_of : List Block → List ℕ
+    part_of bs = serial_part input.table (state_of input.genesis) 0 bs
+
     parts : (a b c d e : List ℕ) → empty ≡ [] → first ≡ empty ++ (a ++ c) → second ≡ first ++ d → third ≡ second ++ e → a ≡ b → third ≡ ((b ++ c) ++ d) ++ e
     parts a b c d e nothing one two three is =
         three ∙ ap (λ (text : List ℕ). text ++ e) (two ∙ ap (λ (text : List ℕ). text ++ d) (one ∙ ap (λ (text : List ℕ). text ++ (a ++ c)) nothing ∙ ap (λ (text : List ℕ). text ++ c) is))

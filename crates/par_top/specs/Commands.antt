@@ -8,7 +8,8 @@ use Rattle.txn_types.specs.declared.stream.Item.{Item}
 use Rattle.txn_types.specs.declared.stream.Item.TheVariants as item
 use Rattle.txn_types.specs.declared.event.Event.TheVariants as event
 use Rattle.oxii_defs.specs.Chain.{chain}
-use Rattle.oxii_defs.specs.Lines.{blocks_line, serial_part, tail_lines}
+use Rattle.oxii_defs.specs.Lines.{blocks_line, tail_lines}
+use Rattle.oxii_defs.specs.SerialRuns.{IsSerialPart}
 use Rattle.node_defs.specs.Cutting.{AreAgreed, rejected_from}
 use Rattle.node_defs.specs.Text.{rejected_line}
 use Rattle.node_defs.specs.GraphText.{IsGraphTextOf}
@@ -54,19 +55,21 @@ Takes Graph input = Unit {0}
 
 -- WHAT IT PRINTS
 
--- the rejected requests, the count of blocks, and the one peer, which completes them all: the orderer sends each block, and the peer a result for each
-abbrev pub lines_of : Input → List Block → List ℕ
-lines_of input blocks =
+-- the rejected requests, the count of blocks, the part of the one peer, and the messages: the orderer sends each block, and the peer a result for each
+abbrev pub lines_of : Input → List Block → List ℕ → List ℕ
+lines_of input blocks part =
     flat_map rejected_line (rejected_from input.table 0 input.items)
     ++ blocks_line (length blocks)
-    ++ serial_part input.table (state_of input.genesis) 0 blocks
+    ++ part
     ++ tail_lines (2 * length blocks) 0
 
--- what a run of a document of the first form prints: the lines over the chain of its agreed blocks
+-- what a run of a document of the first form prints: the one peer completes the chain of its agreed blocks, run one after another by the operations' meaning
 pub record IsRunText (input : Input) (lines : List ℕ) : Type 0 where
   pub bodies : List Body
   pub agreed : AreAgreed input.table input.limits input.items bodies
-  pub are : lines ≡ lines_of input (chain input.table bodies)
+  pub part : List ℕ
+  pub run : IsSerialPart input.table (state_of input.genesis) 0 (chain input.table bodies) part
+  pub are : lines ≡ lines_of input (chain input.table bodies) part
 
 -- what `graph` prints
 abbrev pub IsGraphText : Input → List ℕ → Type 0

@@ -14,10 +14,10 @@ pub record IsNotYet (command : Command) (bytes : List ℕ) : Type 0 where
   pub other : ¬ Takes command input
 
 -- a whole document has this fault
-abbrev pub HasFault : Command → List ℕ → DocFault → Type 0
-HasFault command bytes doc.NotYet = IsNotYet command bytes
-HasFault command bytes fault = IsFaultOf bytes fault
+abbrev pub HasFaultFor : Command → List ℕ → DocFault → Type 0
+HasFaultFor command bytes doc.NotYet = IsNotYet command bytes
+HasFaultFor command bytes fault = IsFaultOf bytes fault
 
 -- a reader of the whole document answers this fault, or that memory was wanted
-abbrev pub Refuses : Command → List ℕ → DocFault → Type 0
-Refuses command bytes fault = (fault ≡ doc.OutOfMemory) ⊎ HasFault command bytes fault
+abbrev pub RefusesFor : Command → List ℕ → DocFault → Type 0
+RefusesFor command bytes fault = (fault ≡ doc.OutOfMemory) ⊎ HasFaultFor command bytes fault

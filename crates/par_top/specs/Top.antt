@@ -1,7 +1,8 @@
 -- What a run of the program promises.
 use Rattle.std.specs.Prelude.{◌≡◌, ◌⊎◌, ℕ, List, Option, Result, Err}
 use Rattle.std.specs.Io.KnownBytes.{Appends}
-use Rattle.par_io.specs.Reading.{ReadWhole, ReadTooMuch}
+use Rattle.par_io.specs.Causes.{Rose}
+use Rattle.par_io.specs.Reading.{ReadWhole, ReadTooMuch, ReadWithin}
 use Rattle.par_io.specs.Writing.{AppendsFront}
 use Rattle.doc_forms.specs.declared.fault.Which.TheVariants as which
 use Rattle.doc_forms.specs.declared.fault.DocFault.{DocFault}
@@ -14,15 +15,20 @@ use Rattle.par_top.specs.declared.command.Command.{Command}
 use Rattle.par_top.specs.declared.status.Status.{Status}
 use Rattle.par_top.specs.declared.status.Status.TheVariants as status
 use Rattle.par_top.specs.Commands.{Says, Takes, IsTextFor}
-use Rattle.par_top.specs.Faults.{HasFault}
-
--- a document refused for this fault
-abbrev pub refusal : Fault → Result Input Fault
-refusal fault = Err fault
+use Rattle.par_top.specs.Faults.{HasFaultFor}
 
 -- a document has at most 4 MiB
 abbrev pub document_limit : ℕ
 document_limit = 4194304
+
+-- the source failed, and gave no more than a document has before that
+pub record IsReadFault (faults_old faults_new : ℕ) (rest_old rest_new : Option (List ℕ)) : Type 0 where
+  pub rose : Rose faults_old faults_new
+  pub within : ReadWithin rest_old rest_new document_limit
+
+-- a document refused for this fault
+abbrev pub refusal : Fault → Result Input Fault
+refusal fault = Err fault
 
 -- the source was read to its end, and what it had means an input that the command takes, with this text
 pub record HasRead (command : Command) (rest_old rest_new : Option (List ℕ)) (lines : List ℕ) : Type 0 where
@@ -40,7 +46,7 @@ pub record IsHeadline (command : Command) (rest_old rest_new written_old written
   pub written : Appends written_old written_new lines
 
 -- the same, and a part from the front of its text was written
-pub record IsPart (command : Command) (rest_old rest_new written_old written_new : Option (List ℕ)) : Type 0 where
+pub record IsWrittenPart (command : Command) (rest_old rest_new written_old written_new : Option (List ℕ)) : Type 0 where
   pub lines : List ℕ
   pub read : HasRead command rest_old rest_new lines
   pub written : AppendsFront written_old written_new lines
@@ -49,7 +55,7 @@ pub record IsPart (command : Command) (rest_old rest_new written_old written_new
 pub record IsFault (command : Command) (rest_old rest_new : Option (List ℕ)) (fault : DocFault) : Type 0 where
   pub bytes : List ℕ
   pub read : ReadWhole rest_old rest_new document_limit bytes
-  pub is : HasFault command bytes fault
+  pub is : HasFaultFor command bytes fault
 
 -- the fault of a document with more bytes than that
 abbrev pub too_long : DocFault

@@ -12,7 +12,8 @@ ghost use Rattle.par_top.specs.AgreedBlocks.{AreAgreedBlocks};
 use block_cutter::cut;
 use hash_ledger::chain;
 use std::alloc::Global;
-use txn_core::{Blocks, CutLimits, Item, OutOfMemory, Rejects, Table};
+use txn_core::Table;
+use txn_types::{Blocks, CutLimits, Item, OutOfMemory, Rejects};
 
 /// What orderers agree on: the rejected requests, and the blocks of the chain.
 #[derive(Drop)]

@@ -5,11 +5,11 @@ ghost use Rattle.input_doc.specs.Inputs.{IsLawfulInput};
 ghost use Rattle.input_doc.specs.Held.{input_of};
 ghost use Rattle.input_doc.specs.Means.{Means};
 ghost use Rattle.par_top.specs.Commands.{Takes};
-ghost use Rattle.par_top.specs.Faults.{Refuses};
+ghost use Rattle.par_top.specs.Faults.{RefusesFor};
 
 use crate::DocFault;
 use crate::command::Command;
-use crate::form::is_first_form;
+use crate::first_form::is_first_form;
 use input_doc::{Input, read_input};
 use std::alloc::Global;
 
@@ -25,7 +25,7 @@ fn takes(command: Command, input: &Input) -> bool
 /// What the bytes mean, or why the command refuses them.
 #[tactic(auto, using(crate::proofs::DocumentLemmas::not_taken, crate::proofs::DocumentLemmas::refused_as_it_is))]
 pub fn document_for(alloc: Global, command: Command, bytes: &[u8]) -> Result<Input, DocFault>
-    ensures { MatchResult result (λ d. Means bytes.now (input_of d) × Takes command (input_of d) × IsLawfulInput (input_of d)) (Refuses command bytes.now) }
+    ensures { MatchResult result (λ d. Means bytes.now (input_of d) × Takes command (input_of d) × IsLawfulInput (input_of d)) (RefusesFor command bytes.now) }
 {
     let input = match read_input(alloc, bytes) {
         Ok(input) => input,

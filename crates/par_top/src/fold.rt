@@ -1,49 +1,17 @@
 //! The blocks of the chain, run one after another as one peer runs them, with their lines.
 
-ghost use Rattle.std.specs.Prelude.{◌≡◌, ◌≤◌, ◌<◌, ◌++◌, ◌+◌, ◌^◌, [], ◌∷◌, length, IfOk, OnOk};
+ghost use Rattle.std.specs.Prelude.{◌≡◌, ◌<◌, ◌++◌, length, OnOk};
 ghost use Rattle.std.specs.List.{All, flat_map};
-ghost use Rattle.oxii_defs.specs.Table.{IsLawfulTxn};
 ghost use Rattle.oxii_defs.specs.Lawful.{IsLawfulTable};
 ghost use Rattle.oxii_defs.specs.Chain.{IsLawfulBlock};
-ghost use Rattle.oxii_defs.specs.Outcomes.{serial_state, serial_outcomes};
 ghost use Rattle.oxii_defs.specs.Lines.{entry_lines, ledger_of, state_after, serial_part};
 ghost use Rattle.txn_core.specs.MeantTable.{table_of};
 ghost use Rattle.txn_core.specs.States.{state_of};
 
-use crate::Gate;
 use report_text::{push_entry_lines, push_peer_line, push_state};
 use std::alloc::Global;
-use txn_core::{Block, OutOfMemory, Outcomes, Scratch, Table, Text, Txn, Values, run_one};
-
-// The transactions of block `number`, one after another. After an `Err` the values are of no use.
-fn run_txns<G: Gate>(
-    alloc: Global,
-    table: &Table,
-    number: u64,
-    txns: &[Txn],
-    values: &mut Values,
-    gate: &G,
-) -> Result<Outcomes, OutOfMemory>
-    requires table { IsLawfulTable (table_of table.now) }
-    requires lawful { All (IsLawfulTxn (table_of table.now)) txns.now }
-    requires short { length txns.now ≤ 256 }
-    requires records { length values.old ≡ length table.now.records }
-    ensures outcomes { IfOk result (λ outcomes. outcomes ≡ serial_outcomes (table_of table.now) (state_of values.old) txns.now) }
-    ensures state { OnOk result (state_of values.new ≡ serial_state (table_of table.now) (state_of values.old) txns.now) }
-    ensures length { OnOk result (length values.new ≡ length values.old) }
-{
-    let mut scratch = Scratch::new();
-    let mut outcomes = Outcomes::new(alloc);
-    let mut t = 0u16;
-    for txn in txns {
-        gate.begin(number, t);
-        let outcome = run_one(table, txn, values, &mut scratch);
-        gate.end(number, t);
-        outcomes.push(outcome)?;
-        t += 1;
-    }
-    Ok(outcomes)
-}
+use txn_core::{Gate, Scratch, Table, run_serial};
+use txn_types::{Block, OutOfMemory, Text, Values};
 
 // The lines of the blocks, with the outcomes of their run from these values on.
 #[tactic(auto, using(crate::proofs::FoldLemmas::txns_lawful, crate::proofs::FoldLemmas::txns_few, crate::proofs::FoldLemmas::outcomes_many))]
@@ -63,12 +31,13 @@ fn push_blocks<G: Gate>(
     ensures length { OnOk result (length values.new ≡ length values.old) }
 {
     for block in blocks {
-        let outcomes = run_txns(
+        let outcomes = run_serial(
             alloc,
             table,
             block.number,
             block.txns.as_slice(),
             values,
+            &mut Scratch::new(),
             gate,
         )?;
         push_entry_lines(text, table, block, outcomes.as_slice())?;

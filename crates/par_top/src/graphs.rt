@@ -10,7 +10,8 @@ use crate::agreed::Agreed;
 use dep_graph::build;
 use report_text::{head, push_graph_block};
 use std::alloc::Global;
-use txn_core::{Block, OutOfMemory, Table, Text};
+use txn_core::Table;
+use txn_types::{Block, OutOfMemory, Text};
 
 #[tactic(auto, using(crate::proofs::FoldLemmas::txns_few))]
 fn push_graphs(

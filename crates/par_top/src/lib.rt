@@ -4,17 +4,16 @@
 mod agreed;
 mod command;
 mod document;
+mod first_form;
 mod fold;
-mod form;
-mod gate;
 mod graphs;
 mod paths;
 mod status;
 mod text;
 mod top;
 
-pub use gate::{FreeGate, Gate};
 pub use input_doc::{DocFault, Path, Step, Which};
 pub use status::{Status, status_code, status_line};
 pub use text::graph_report;
 pub use top::run;
+pub use txn_core::{FreeGate, Gate};

@@ -6,7 +6,7 @@ ghost use Rattle.par_top.specs.Statuses.{printed_byte, key_text, step_text, firs
 
 use crate::Step;
 use report_text::push_number;
-use txn_core::{OutOfMemory, Text};
+use txn_types::{OutOfMemory, Text};
 
 fn printed_byte(byte: u8) -> u8
     ensures { result ≡ printed_byte byte }

@@ -6,7 +6,7 @@ use crate::{DocFault, Path, Which};
 use contract_text::TextFault;
 use report_text::push_number;
 use std::alloc::Global;
-use txn_core::{OutOfMemory, Text};
+use txn_types::{OutOfMemory, Text};
 
 /// What a run of the program came to.
 #[derive(Drop)]

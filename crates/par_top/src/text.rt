@@ -13,7 +13,7 @@ use crate::graphs::push_graph_text;
 use input_doc::Input;
 use report_text::{head, push_tail};
 use std::alloc::Global;
-use txn_core::{Copies, OutOfMemory, Text};
+use txn_types::{Copies, OutOfMemory, Text};
 
 // The agreed blocks are run, and the first peer's part is printed.
 fn run_text<G: Gate>(alloc: Global, input: &Input, gate: &G) -> Result<Text, OutOfMemory>

@@ -7,7 +7,7 @@ ghost use Rattle.doc_forms.specs.Faults.{Fault};
 ghost use Rattle.input_doc.specs.Means.{Means, HasFault};
 ghost use Rattle.par_top.specs.Commands.{Says, IsCommand, Takes};
 ghost use Rattle.par_top.specs.Statuses.{CanSay};
-ghost use Rattle.par_top.specs.Top.{OfCommand, IsHeadline, IsPart, IsRefusal, IsRefusedFor, document_limit, too_long};
+ghost use Rattle.par_top.specs.Top.{OfCommand, IsHeadline, IsReadFault, IsWrittenPart, IsRefusal, IsRefusedFor, document_limit, too_long};
 
 use crate::command::{Command, command_of};
 use crate::document::document_for;
@@ -30,9 +30,9 @@ fn run_command<S: Source, K: Sink, G: Gate>(
     ensures ok { result ≡ Status.Ok → IsHeadline command (S.rest source.old) (S.rest source.new) (K.written sink.old) (K.written sink.new) }
     ensures not_usage { result ≡ Status.Usage → ⊥ }
     ensures refused { (fault : DocFault) → result ≡ Status.Refused fault → IsRefusal command (S.rest source.old) (S.rest source.new) fault }
-    ensures read_fault { result ≡ Status.ReadFault → Rose (S.faults source.old) (S.faults source.new) }
+    ensures read_fault { result ≡ Status.ReadFault → IsReadFault (S.faults source.old) (S.faults source.new) (S.rest source.old) (S.rest source.new) }
     ensures write_fault { result ≡ Status.WriteFault → Rose (K.faults sink.old) (K.faults sink.new) }
-    ensures part { result ≡ Status.WriteFault → IsPart command (S.rest source.old) (S.rest source.new) (K.written sink.old) (K.written sink.new) }
+    ensures part { result ≡ Status.WriteFault → IsWrittenPart command (S.rest source.old) (S.rest source.new) (K.written sink.old) (K.written sink.new) }
     ensures nothing { (result ≡ Status.Ok) ⊎ ((result ≡ Status.WriteFault) ⊎ (sink.new ≡ sink.old)) }
     ensures sayable { CanSay result }
 {
@@ -77,14 +77,14 @@ pub fn run<R: Threads + Sync, S: Source, K: Sink, G: Gate>(
     ensures usage { (result ≡ Status.Usage) ↔ (¬ IsCommand (map string_bytes words.now)) }
     ensures untouched { result ≡ Status.Usage → (source.new ≡ source.old) × (sink.new ≡ sink.old) }
 
-    // A refusal has its cause in what was read, and a fault in the object that failed. Want of memory is no refusal.
+    // A refusal has its cause in what was read, and a fault in the object that failed; before a read fault came no more bytes than a document has. Want of memory is no refusal.
     ensures sayable { CanSay result }
     ensures refused { (fault : DocFault) → result ≡ Status.Refused fault → OfCommand (map string_bytes words.now) (λ command. IsRefusal command (S.rest source.old) (S.rest source.new) fault) }
-    ensures read_fault { result ≡ Status.ReadFault → Rose (S.faults source.old) (S.faults source.new) }
+    ensures read_fault { result ≡ Status.ReadFault → IsReadFault (S.faults source.old) (S.faults source.new) (S.rest source.old) (S.rest source.new) }
     ensures write_fault { result ≡ Status.WriteFault → Rose (K.faults sink.old) (K.faults sink.new) }
 
     // What was written is a part from the front of the text, and with every other answer nothing.
-    ensures part { result ≡ Status.WriteFault → OfCommand (map string_bytes words.now) (λ command. IsPart command (S.rest source.old) (S.rest source.new) (K.written sink.old) (K.written sink.new)) }
+    ensures part { result ≡ Status.WriteFault → OfCommand (map string_bytes words.now) (λ command. IsWrittenPart command (S.rest source.old) (S.rest source.new) (K.written sink.old) (K.written sink.new)) }
     ensures nothing { (result ≡ Status.Ok) ⊎ ((result ≡ Status.WriteFault) ⊎ (sink.new ≡ sink.old)) }
 
     // A document that the command takes is answered, unless memory is wanted or a fault was counted.

@@ -12,8 +12,7 @@ use Rattle.oxii_defs.specs.Chain.{IsLawfulBlock}
 use Rattle.oxii_defs.specs.Lines as lines
 use Rattle.oxii_defs.specs.Lines.{entry_lines}
 use Rattle.hash_ledger.specs.declared.entry.Entry.{Entry}
-use Rattle.hash_ledger.specs.Ledgers.{AllFit}
-use Rattle.report_text.specs.Parts.{entry_of, entries_of, IsLawfulEntry}
+use Rattle.hash_ledger.specs.Ledgers.{AllFit, entry_of, entries_of, IsLawfulEntry}
 
 fit_count : (txns : List Txn) (outcomes : List Outcome) → AllFit txns outcomes → length outcomes ≡ length txns
 fit_count [] [] h = refl

@@ -8,4 +8,4 @@ pub use Rattle.node_defs.specs.GraphText
 pub use Rattle.txn_core.specs.MeantTable
 pub use Rattle.txn_core.specs.States
 pub use Rattle.hash_ledger.specs.Ledgers
-pub mod Parts
+pub use Rattle.hash_ledger.specs.Halts

@@ -10,7 +10,8 @@ ghost use Rattle.node_defs.specs.GraphText.{preds_text, after_line, after_lines,
 ghost use Rattle.txn_core.specs.MeantTable.{table_of};
 
 use crate::lines::{push_block, push_config, push_number};
-use txn_core::{Block, Graph, OutOfMemory, Reject, Rejected, Table, Text, Txn};
+use txn_core::{Graph, Table};
+use txn_types::{Block, OutOfMemory, Reject, Rejected, Text, Txn};
 
 fn reject_word(why: Reject) -> &'static [u8]
     ensures { result.now ≡ reject_word why }

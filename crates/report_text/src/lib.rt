@@ -3,13 +3,11 @@
 
 mod graph;
 mod lines;
-mod parts;
 mod peer;
+mod report_parts;
 mod state;
-#[cfg(test)]
-mod tests;
 
 pub use graph::{push_graph_block, push_rejects};
 pub use lines::{push_blocks_line, push_entry_lines, push_number, push_peer_line, push_tail};
-pub use parts::{head, peer_part, tail};
+pub use report_parts::{head, peer_part, tail};
 pub use state::push_state;

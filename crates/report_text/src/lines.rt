@@ -13,7 +13,8 @@ ghost use Rattle.txn_core.specs.MeantTable.{table_of};
 
 use hash_ledger::block_hash;
 use itoa::Buffer;
-use txn_core::{Block, Config, OutOfMemory, Outcome, Reason, Table, Text, Txn};
+use txn_core::Table;
+use txn_types::{Block, Config, OutOfMemory, Outcome, Reason, Text, Txn};
 
 /// A number in decimal.
 pub fn push_number(text: &mut Text, n: u64) -> Result<(), OutOfMemory>

@@ -6,12 +6,14 @@ ghost use Rattle.oxii_defs.specs.Lines.{entry_lines, peer_lines};
 ghost use Rattle.node_defs.specs.Text.{halted_line};
 ghost use Rattle.txn_core.specs.MeantTable.{table_of};
 ghost use Rattle.txn_core.specs.States.{state_of};
-ghost use Rattle.report_text.specs.Parts.{entries_of, halt_of, halted_of, IsLawfulEntry, IsLawfulSplit};
+ghost use Rattle.hash_ledger.specs.Halts.{halt_of, halted_of, IsLawfulSplit};
+ghost use Rattle.hash_ledger.specs.Ledgers.{entries_of, IsLawfulEntry};
 
 use crate::lines::{push_entry_lines, push_number, push_peer_line, push_written};
 use crate::state::push_state;
 use hash_ledger::Ledger;
-use txn_core::{OutOfMemory, Split, Table, Text, Values};
+use txn_core::Table;
+use txn_types::{OutOfMemory, Split, Text, Values};
 
 // The lines of each completed block.
 fn push_ledger(text: &mut Text, table: &Table, ledger: &Ledger) -> Result<(), OutOfMemory>

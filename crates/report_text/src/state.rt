@@ -7,7 +7,8 @@ ghost use Rattle.txn_core.specs.MeantTable.{table_of};
 ghost use Rattle.txn_core.specs.States.{state_of};
 
 use crate::push_number;
-use txn_core::{Name, OutOfMemory, Table, Text, Values};
+use txn_core::Table;
+use txn_types::{Name, OutOfMemory, Text, Values};
 
 // How many records have a value other than 0.
 #[tactic(auto, using(crate::proofs::LineSteps::count_next, crate::proofs::LineSteps::count_end))]

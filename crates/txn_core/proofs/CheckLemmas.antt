@@ -8,7 +8,7 @@ use Rattle.oxii_defs.specs.Syntax.{Name, Expr, Num, Param, Local, Rec, Calc, Con
 use Rattle.oxii_defs.specs.WellFormed.{Scope, HasKind, IsFineExpr, IsFineCond, IsNew, scope_after, IsFine, AllFine, AllDiffer, IsWellFormed, Match}
 use Rattle.txn_types.specs.declared.txn.Arg.{Arg}
 use Rattle.txn_types.specs.declared.txn.Arg.TheVariants as arg
-use Rattle.txn_types.specs.Values.{max_value}
+use Rattle.txn_types.specs.Values.{max_value, max_turns}
 use Rattle.txn_core.specs.Checked.{is_named, same_kind, has_kind, fine_expr, fine_cond, is_new, visible_after, fine, all_fine, all_differ, match_all}
 
 abbrev scope_of : List Formal → ℕ → List Name → Scope
@@ -83,7 +83,7 @@ module _ (params : List Formal) where
     fine_decides turns visible (If p first second) =
         Decides-and3 _ _ _ (cond_decides turns visible p) (all_decides turns visible first) (all_decides turns visible second)
     fine_decides turns visible (Repeat count body) =
-        Decides-and4 _ _ _ _ (Decides-ltb 0 count) (le_decides count 64) (le_decides (turns * count) 1024) (all_decides (turns * count) visible body)
+        Decides-and4 _ _ _ _ (Decides-ltb 0 count) (le_decides count 64) (le_decides (turns * count) max_turns) (all_decides (turns * count) visible body)
 
     all_decides : (turns : ℕ) (visible : List Name) (body : Stmts) → Decides (all_fine params turns visible body) (AllFine (scope_of params turns visible) body)
     all_decides turns visible Done = (λ e. tt, λ h. refl)

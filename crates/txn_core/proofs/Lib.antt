@@ -7,3 +7,4 @@ pub mod CheckLemmas
 pub mod CheckStepLemmas
 pub mod TableNames
 pub mod GraphLemmas
+pub mod TableSync

@@ -2,7 +2,7 @@
 use Rattle.std.specs.Prelude.{◌≡◌, ℕ, ◌*◌, true, ◌&&◌, nat_lt, nat_le, ◌==◌, List, [], ◌∷◌, ◌++◌, length}
 use Rattle.std.proofs.Common.{refl, ap}
 use Rattle.oxii_defs.specs.Syntax.{Name, Formal, RecKind, NumKind}
-use Rattle.txn_types.specs.Values.{max_value}
+use Rattle.txn_types.specs.Values.{max_value, max_turns}
 use Rattle.txn_core.specs.declared.syntax.Calc.{Calc}
 use Rattle.txn_core.specs.declared.syntax.Cmp.{Cmp}
 use Rattle.txn_core.specs.declared.syntax.Expr.{Expr}
@@ -76,7 +76,7 @@ module _ (params : List Formal) (turns : ℕ) (visible : List Name) where
 
   pub fine-Repeat : (count : ℕ) (body : List Stmt) →
       fine params turns visible (stmt_of (stmt.Repeat count body))
-      ≡ (nat_lt 0 count && (nat_le count 64 && (nat_le (turns * count) 1024 && all_fine params (turns * count) visible (stmts_of body))))
+      ≡ (nat_lt 0 count && (nat_le count 64 && (nat_le (turns * count) max_turns && all_fine params (turns * count) visible (stmts_of body))))
   unfolding fine
   fine-Repeat count body = ap (fine params turns visible) (stmt_of-Repeat count body)
 

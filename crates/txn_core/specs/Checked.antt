@@ -4,7 +4,7 @@ use Rattle.std.specs.Cmp.Lexicographic.{pointwise}
 use Rattle.oxii_defs.specs.Syntax.{Name, Expr, Num, Param, Local, Rec, Calc, Cond, Cmp, And, Or, Not, Stmt, Let, SetLocal, SetRec, Require, If, Repeat, Stmts, Done, Then, ParamKind, RecKind, NumKind, Formal}
 use Rattle.txn_types.specs.declared.txn.Arg.{Arg}
 use Rattle.txn_types.specs.declared.txn.Arg.TheVariants as arg
-use Rattle.txn_types.specs.Values.{max_value}
+use Rattle.txn_types.specs.Values.{max_value, max_turns}
 
 abbrev pub is_named : List Name → Name → Bool
 is_named [] name = false
@@ -51,7 +51,7 @@ module _ (params : List Formal) where
     fine turns visible (SetRec i e) = has_kind params i RecKind && fine_expr visible e
     fine turns visible (Require p) = fine_cond visible p
     fine turns visible (If p first second) = fine_cond visible p && (all_fine turns visible first && all_fine turns visible second)
-    fine turns visible (Repeat count body) = nat_lt 0 count && (nat_le count 64 && (nat_le (turns * count) 1024 && all_fine (turns * count) visible body))
+    fine turns visible (Repeat count body) = nat_lt 0 count && (nat_le count 64 && (nat_le (turns * count) max_turns && all_fine (turns * count) visible body))
 
     pub all_fine : ℕ → List Name → Stmts → Bool
     all_fine turns visible Done = true

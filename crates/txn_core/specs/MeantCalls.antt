@@ -16,6 +16,6 @@ abbrev pub given : List Arg → List ℕ → List ℕ → Call
 given args reads inputs = record { args = args; reads = λ r. seen_input inputs (place reads r) }
 
 -- the meaning is this new frame, or this reason
-abbrev pub Gives : {A : Type 0} → Result A Reason → Answer Frame → Frame → Type 0
-Gives (Ok _) meaning new = meaning ≡ Ok new
-Gives (Err r) meaning new = meaning ≡ Err r
+abbrev pub GivesFrame : {A : Type 0} → Result A Reason → Answer Frame → Frame → Type 0
+GivesFrame (Ok _) meaning new = meaning ≡ Ok new
+GivesFrame (Err r) meaning new = meaning ≡ Err r

@@ -2,11 +2,13 @@
 
 ghost use Rattle.std.specs.Prelude.{◌≡◌, ◌↔◌, ◌*◌, ◌&&◌, nat_lt, nat_le, map, IsTrue, IfOk, OnOk};
 ghost use Rattle.oxii_defs.specs.WellFormed.{IsWellFormed, Match};
+ghost use Rattle.txn_types.specs.Values.{max_turns};
 ghost use Rattle.txn_core.specs.Meant.{op_of, expr_of, cond_of, stmt_of, stmts_of, formal_of, kind_of};
 ghost use Rattle.txn_core.specs.Checked.{is_named, has_kind, fine_expr, fine_cond, is_new, visible_after, fine, all_fine, all_differ, match_all};
 
-use crate::{Arg, Args, Cond, Expr, MAX, Name, Names, Op, OutOfMemory, Param, ParamKind, Stmt};
+use crate::{Cond, Expr, Op, Param, ParamKind, Stmt};
 use std::alloc::Global;
+use txn_types::{Arg, Args, MAX, MAX_TURNS, Name, Names, OutOfMemory};
 
 fn is_named(names: &[Name], name: &Name) -> bool
     ensures { result ≡ is_named names.now name.now }
@@ -109,14 +111,14 @@ fn repeated(
     count: u8,
     body: &[Stmt],
 ) -> Result<bool, OutOfMemory>
-    ensures verdict { IfOk result (λ verdict. verdict ≡ (nat_lt 0 count && (nat_le count 64 && (nat_le (turns * count) 1024 && all_fine (map formal_of params.now) (turns * count) visible.old (stmts_of body.now))))) }
+    ensures verdict { IfOk result (λ verdict. verdict ≡ (nat_lt 0 count && (nat_le count 64 && (nat_le (turns * count) max_turns && all_fine (map formal_of params.now) (turns * count) visible.old (stmts_of body.now))))) }
     ensures visible { OnOk result (visible.new ≡ visible.old) }
 {
     if count == 0 || count > 64 {
         return Ok(false);
     }
     match turns.checked_mul(count as u64) {
-        Some(turns) if turns <= 1024 => all_fine(params, turns, visible, body),
+        Some(turns) if turns <= MAX_TURNS => all_fine(params, turns, visible, body),
         _ => Ok(false),
     }
 }

@@ -6,11 +6,12 @@ ghost use Rattle.oxii_defs.specs.Calls.{number_arg, record_arg};
 ghost use Rattle.oxii_defs.specs.Meaning.{compared};
 ghost use Rattle.oxii_defs.specs.Running.{bounded, calc, read, scoped, turns, value_of, truth_of, after, after_all};
 ghost use Rattle.txn_core.specs.Meant.{operator_of, comparison_of, expr_of, cond_of, stmt_of, stmts_of};
-ghost use Rattle.txn_core.specs.MeantCalls.{given, Gives};
+ghost use Rattle.txn_core.specs.MeantCalls.{given, GivesFrame};
 ghost use Rattle.txn_core.specs.Slots.{HasSlots, AllHaveSlots, depth_after};
 
 use crate::scratch::place_of;
-use crate::{Arg, Calc, Cmp, Cond, Expr, MAX, Reason, Scratch, Stmt};
+use crate::{Calc, Cmp, Cond, Expr, Scratch, Stmt};
+use txn_types::{Arg, MAX, Reason};
 
 /// What a call is given: its arguments, and what it may read.
 #[derive(Clone, Copy)]
@@ -132,10 +133,10 @@ fn truth(call: &Given<'_>, scratch: &Scratch, test: &Cond) -> Result<bool, Reaso
 /// What one statement does; after an `Err` the scratch is of no use.
 #[cycle(statements)]
 #[tactic(auto, using(crate::specs::Forms::stmts, crate::specs::Forms::slots))]
-fn step(call: &Given<'_>, scratch: &mut Scratch, stmt: &Stmt) -> Result<(), Reason>
+fn run_statement(call: &Given<'_>, scratch: &mut Scratch, stmt: &Stmt) -> Result<(), Reason>
     requires inputs { length call.now.reads.now ≤ length call.now.inputs.now }
     requires slots { HasSlots (length scratch.old.locals) (stmt_of stmt.now) }
-    ensures meaning { Gives result (after (given call.now.args.now call.now.reads.now call.now.inputs.now) (stmt_of stmt.now) scratch.old) scratch.new }
+    ensures meaning { GivesFrame result (after (given call.now.args.now call.now.reads.now call.now.inputs.now) (stmt_of stmt.now) scratch.old) scratch.new }
     ensures depth { OnOk result (length scratch.new.locals ≡ depth_after (length scratch.old.locals) (stmt_of stmt.now)) }
 {
     match stmt {
@@ -180,7 +181,7 @@ fn step(call: &Given<'_>, scratch: &mut Scratch, stmt: &Stmt) -> Result<(), Reas
 fn repeat(call: &Given<'_>, scratch: &mut Scratch, count: u8, body: &[Stmt]) -> Result<(), Reason>
     requires inputs { length call.now.reads.now ≤ length call.now.inputs.now }
     requires slots { AllHaveSlots (length scratch.old.locals) (stmts_of body.now) }
-    ensures meaning { Gives result (turns count (scoped (after_all (given call.now.args.now call.now.reads.now call.now.inputs.now) (stmts_of body.now))) scratch.old) scratch.new }
+    ensures meaning { GivesFrame result (turns count (scoped (after_all (given call.now.args.now call.now.reads.now call.now.inputs.now) (stmts_of body.now))) scratch.old) scratch.new }
     ensures depth { OnOk result (length scratch.new.locals ≡ length scratch.old.locals) }
 {
     for _turn in 0..count {
@@ -194,7 +195,7 @@ fn repeat(call: &Given<'_>, scratch: &mut Scratch, count: u8, body: &[Stmt]) -> 
 fn block(call: &Given<'_>, scratch: &mut Scratch, body: &[Stmt]) -> Result<(), Reason>
     requires inputs { length call.now.reads.now ≤ length call.now.inputs.now }
     requires slots { AllHaveSlots (length scratch.old.locals) (stmts_of body.now) }
-    ensures meaning { Gives result (scoped (after_all (given call.now.args.now call.now.reads.now call.now.inputs.now) (stmts_of body.now)) scratch.old) scratch.new }
+    ensures meaning { GivesFrame result (scoped (after_all (given call.now.args.now call.now.reads.now call.now.inputs.now) (stmts_of body.now)) scratch.old) scratch.new }
     ensures depth { OnOk result (length scratch.new.locals ≡ length scratch.old.locals) }
 {
     let depth = scratch.depth();
@@ -208,11 +209,11 @@ fn block(call: &Given<'_>, scratch: &mut Scratch, body: &[Stmt]) -> Result<(), R
 pub fn run(call: &Given<'_>, scratch: &mut Scratch, body: &[Stmt]) -> Result<(), Reason>
     requires inputs { length call.now.reads.now ≤ length call.now.inputs.now }
     requires slots { AllHaveSlots (length scratch.old.locals) (stmts_of body.now) }
-    ensures meaning { Gives result (after_all (given call.now.args.now call.now.reads.now call.now.inputs.now) (stmts_of body.now) scratch.old) scratch.new }
+    ensures meaning { GivesFrame result (after_all (given call.now.args.now call.now.reads.now call.now.inputs.now) (stmts_of body.now) scratch.old) scratch.new }
     ensures depth { OnOk result (length scratch.old.locals ≤ length scratch.new.locals) }
 {
     for stmt in body {
-        step(call, scratch, stmt)?;
+        run_statement(call, scratch, stmt)?;
     }
     Ok(())
 }

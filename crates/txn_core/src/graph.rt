@@ -5,9 +5,9 @@ ghost use Rattle.std.specs.List.{All, list_any, slice_index_or};
 ghost use Rattle.txn_types.specs.Rising.{IsRising};
 ghost use Rattle.oxii_defs.specs.Dependency.{meets, depends, preds_from, graph_of};
 
-use crate::{Block, Copies, GrowingList, Kind, OutOfMemory, Preds, Recs, Txn};
 use std::alloc::Global;
 use std::marker::Model;
+use txn_types::{Block, Copies, GrowingList, Kind, OutOfMemory, Preds, Recs, Txn};
 
 /// A kind, and for each of at most 256 positions the positions that it depends on: strictly rising, and earlier ones only.
 #[derive(Drop)]

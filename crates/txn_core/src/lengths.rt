@@ -6,7 +6,8 @@ ghost use Rattle.oxii_defs.specs.Table.{IsLawfulTxn, IsKnown, IsRecord};
 ghost use Rattle.oxii_defs.specs.BlockBytes.{name_bytes, arg_bytes, args_bytes, records_bytes, txn_bytes};
 ghost use Rattle.txn_core.specs.MeantTable.{table_of};
 
-use crate::{Arg, Name, Table, Txn};
+use crate::Table;
+use txn_types::{Arg, Name, Txn};
 
 /// How many bytes a transaction has, 1,669 at most.
 pub fn bytes_len(table: &Table, txn: &Txn) -> u32

@@ -3,6 +3,7 @@
 
 mod check;
 mod eval;
+mod gate;
 mod graph;
 mod lengths;
 mod names;
@@ -11,10 +12,9 @@ mod scratch;
 mod serial;
 mod syntax;
 mod table;
-#[cfg(test)]
-mod tests;
 
 pub use check::{is_well_formed, takes};
+pub use gate::{FreeGate, Gate};
 pub use graph::{Graph, depends};
 pub use lengths::bytes_len;
 pub use run::run_txn;
@@ -22,10 +22,3 @@ pub use scratch::Scratch;
 pub use serial::{apply_to, inputs_of, outcome_at, run_one, run_serial};
 pub use syntax::{Calc, Cmp, Cond, Expr, Op, Ops, Param, ParamKind, Params, Stmt, Stmts};
 pub use table::{App, Apps, Table, op_named};
-pub use txn_types::{
-    Admitted, Arg, Args, Block, Blocks, Bodies, Body, Bytes, Commit, Commits, Config, Copies,
-    CutLimits, Event, Events, FixedList, GrowingList, Item, ItemList, Items, Kind, Known, MAX,
-    Message, Name, Names, NewBlock, Node, NodeSet, OutOfMemory, Outcome, Outcomes, PeerSet, Piece,
-    Preds, Ranked, Reason, RecordList, Recs, Reject, Rejected, Rejects, Request, RequestArgs,
-    RisingList, Split, Text, Txn, Txns, Values, Vote, Votes, Writes,
-};

@@ -5,7 +5,8 @@ ghost use Rattle.oxii_defs.specs.BlockBytes.{record_name, peer_name, app_name, o
 ghost use Rattle.txn_core.specs.Meant.{op_of};
 ghost use Rattle.txn_core.specs.MeantTable.{table_of};
 
-use crate::{App, Name, Table};
+use crate::{App, Table};
+use txn_types::Name;
 
 impl Table {
     /// The name of a record.

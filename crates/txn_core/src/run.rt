@@ -9,7 +9,8 @@ ghost use Rattle.txn_types.specs.Values.{max_value};
 ghost use Rattle.txn_core.specs.Meant.{op_of};
 
 use crate::eval::{Given, run};
-use crate::{Op, Outcome, Scratch, Txn};
+use crate::{Op, Scratch};
+use txn_types::{Outcome, Txn};
 
 /// The outcome of an operation in each state whose values at the read set are the inputs.
 pub fn run_txn(op: &Op, txn: &Txn, inputs: &[u64; 16], scratch: &mut Scratch) -> Outcome

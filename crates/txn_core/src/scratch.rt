@@ -6,8 +6,8 @@ ghost use Rattle.oxii_defs.specs.Calls.{with_local, with_local_at, leave, fresh}
 ghost use Rattle.oxii_defs.specs.Running.{write};
 ghost use Rattle.txn_core.specs.Frames.{place};
 
-use crate::{Reason, Recs, Writes};
 use std::marker::Model;
+use txn_types::{Reason, Recs, Writes};
 
 /// Visible locals, and one value or none for each record of the write set.
 #[derive(Drop)]
@@ -21,7 +21,7 @@ pub struct Scratch {
 impl Model for Scratch {
     ghost use Rattle.std.specs.Prelude.{take};
     ghost use Rattle.oxii_defs.specs.Calls.{Frame};
-    ghost use Rattle.txn_core.specs.Frames.{frame_code, written_of, IsSound};
+    ghost use Rattle.txn_core.specs.Frames.{frame_code, written_of, IsSoundFrame};
 
     ghost Value = { Frame };
 
@@ -29,7 +29,7 @@ impl Model for Scratch {
 
     ghost view = { λ s. record { writes = s.writes; locals = take s.depth s.locals; written = written_of s.writes s.values } };
 
-    ghost invariant = { λ s. IsSound s.depth s.locals s.writes s.values };
+    ghost invariant = { λ s. IsSoundFrame s.depth s.locals s.writes s.values };
 }
 
 impl Scratch {

@@ -10,8 +10,9 @@ ghost use Rattle.txn_types.specs.Values.{IsValue, max_value};
 ghost use Rattle.txn_core.specs.MeantTable.{table_of};
 ghost use Rattle.txn_core.specs.States.{state_of};
 
-use crate::{OutOfMemory, Outcome, Outcomes, Recs, Scratch, Table, Txn, Values, op_named, run_txn};
+use crate::{Gate, Scratch, Table, op_named, run_txn};
 use std::alloc::Global;
+use txn_types::{OutOfMemory, Outcome, Outcomes, Recs, Txn, Values};
 
 /// The values of these records, and 0 past them.
 fn values_at(reads: &Recs, values: &[u64]) -> [u64; 16]
@@ -100,24 +101,32 @@ pub fn run_one(table: &Table, txn: &Txn, values: &mut Values, scratch: &mut Scra
     outcome
 }
 
-/// The serial run: what each transaction means in the state that those before it leave; after an `Err` the values are of no use.
-pub fn run_serial(
+/// The serial run of block `number`: what each transaction means in the state that those before it leave; the gate is told of each begin and end. After an `Err` the values are of no use.
+pub fn run_serial<G: Gate>(
     alloc: Global,
     table: &Table,
+    number: u64,
     txns: &[Txn],
     values: &mut Values,
     scratch: &mut Scratch,
+    gate: &G,
 ) -> Result<Outcomes, OutOfMemory>
     requires table { IsLawfulTable (table_of table.now) }
     requires lawful { All (IsLawfulTxn (table_of table.now)) txns.now }
+    requires few { length txns.now ≤ 256 }
     requires records { length values.old ≡ length table.now.records }
     ensures outcomes { IfOk result (λ outcomes. outcomes ≡ serial_outcomes (table_of table.now) (state_of values.old) txns.now) }
     ensures state { OnOk result (state_of values.new ≡ serial_state (table_of table.now) (state_of values.old) txns.now) }
     ensures length { OnOk result (length values.new ≡ length values.old) }
 {
     let mut outcomes = Outcomes::new(alloc);
+    let mut t = 0u16;
     for txn in txns {
-        outcomes.push(run_one(table, txn, values, scratch))?;
+        gate.begin(number, t);
+        let outcome = run_one(table, txn, values, scratch);
+        gate.end(number, t);
+        outcomes.push(outcome)?;
+        t += 1;
     }
     Ok(outcomes)
 }

@@ -1,7 +1,7 @@
 // The syntax of an operation.
 
-use crate::{GrowingList, Name};
 use sqlite_items::{Boxed, Items};
+use txn_types::{GrowingList, Name};
 
 /// An operator on two numbers.
 #[derive(Clone, Copy, Debug, PartialEq, Eq)]

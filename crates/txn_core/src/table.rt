@@ -5,7 +5,8 @@ ghost use Rattle.oxii_defs.specs.Table.{op_in, IsLawfulTxn};
 ghost use Rattle.txn_core.specs.Meant.{op_of};
 ghost use Rattle.txn_core.specs.MeantTable.{table_of};
 
-use crate::{GrowingList, Kind, Name, Names, Op, Ops, PeerSet, Txn};
+use crate::{Op, Ops};
+use txn_types::{GrowingList, Kind, Name, Names, PeerSet, Txn};
 
 /// An application: the peers that run its transactions, how many equal votes of theirs agree on an outcome, who may call it, and its operations.
 #[derive(Drop)]

@@ -1,4 +1,4 @@
--- The values of records.
+-- The values of records, and the greatest numbers that more than one crate names.
 use Rattle.std.specs.Prelude.{ℕ, ◌≤◌, List}
 use Rattle.std.specs.List.{All}
 
@@ -11,3 +11,15 @@ IsValue x = x ≤ max_value
 
 abbrev pub AreValues : List ℕ → Type 0
 AreValues = All IsValue
+
+-- the largest number of a block: 4,096 transactions and 256 configurations, each alone, and one behind
+abbrev pub max_number : ℕ
+max_number = 4353
+
+-- the most messages that faulty nodes say
+abbrev pub max_false : ℕ
+max_false = 1024
+
+-- the largest product of repeat counts that stand inside one another
+abbrev pub max_turns : ℕ
+max_turns = 1024

@@ -26,7 +26,7 @@ impl Config {
 }
 
 /// A numbered block, linked to the one before by that one's hash: transactions, or a configuration.
-#[derive(Drop)]
+#[derive(PartialEq, Eq, Drop)]
 pub struct Block {
     pub number: u64,
     pub prev: [u8; 32],

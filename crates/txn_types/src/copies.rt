@@ -9,6 +9,12 @@ pub trait Copies: Drop {
         ensures { IfOk result (λ r. r ≡ self.now) };
 }
 
+impl Copies for bool {
+    fn copy(&self, _alloc: Global) -> Result<bool, OutOfMemory> {
+        Ok(*self)
+    }
+}
+
 impl Copies for u8 {
     fn copy(&self, _alloc: Global) -> Result<u8, OutOfMemory> {
         Ok(*self)

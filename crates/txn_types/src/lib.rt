@@ -5,8 +5,6 @@ mod block;
 mod copies;
 mod event;
 mod fixed;
-mod growing;
-mod memory;
 mod message;
 mod name;
 mod rising;
@@ -20,8 +18,7 @@ pub use block::{Block, Blocks, Bodies, Body, Config, Txns};
 pub use copies::Copies;
 pub use event::{Event, Events, Items};
 pub use fixed::FixedList;
-pub use growing::{Bytes, GrowingList, Text};
-pub use memory::OutOfMemory;
+pub use growing_list::{Bytes, GrowingList, OutOfMemory, Text};
 pub use message::{Commit, Commits, Message, NewBlock, Node, NodeSet, Preds, Split, Vote, Votes};
 pub use name::{Name, Names};
 pub use rising::{Ranked, RisingList};
@@ -30,4 +27,4 @@ pub use stream::{
     RequestArgs,
 };
 pub use txn::{Arg, Args, Kind, Known, Outcome, Outcomes, PeerSet, Reason, Recs, Txn, Writes};
-pub use values::{MAX, Values};
+pub use values::{MAX, MAX_FALSE, MAX_NUMBER, MAX_TURNS, Values};

@@ -9,6 +9,15 @@ use std::marker::Model;
 /// The largest value of a record, 2^62 - 1.
 pub const MAX: u64 = 4_611_686_018_427_387_903;
 
+/// The largest number of a block: 4,096 transactions and 256 configurations, each alone, and one behind.
+pub const MAX_NUMBER: u64 = 4353;
+
+/// The most messages that faulty nodes say.
+pub const MAX_FALSE: u32 = 1024;
+
+/// The largest product of repeat counts that stand inside one another.
+pub const MAX_TURNS: u64 = 1024;
+
 /// One number up to `MAX` for each record of a table.
 #[derive(Drop)]
 pub struct Values {

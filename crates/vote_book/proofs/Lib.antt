@@ -1,3 +1,2 @@
-mod BallotLemmas
 mod PutLemmas
 mod Tallies

@@ -3,11 +3,11 @@ use Rattle.std.specs.Prelude.{ℕ, ◌==◌, Bool, ◌&&◌, if◌then◌else◌
 use Rattle.std.specs.List.{list_any}
 use Rattle.txn_types.specs.declared.txn.Outcome.{Outcome}
 use Rattle.vote_book.specs.declared.ballot.Ballot.{Ballot}
-use Rattle.vote_book.specs.declared.ballot.Put.{Put}
-use Rattle.vote_book.specs.declared.ballot.Put.TheVariants.{Stranger, Repeat, Counted}
+use Rattle.vote_book.specs.declared.ballot.VotePut.{VotePut}
+use Rattle.vote_book.specs.declared.ballot.VotePut.TheVariants.{Stranger, Repeat, Counted}
 
 -- voters and counted votes
-pub record Kept : Type 0 where
+pub record KeptVotes : Type 0 where
   pub voters : List ℕ
   pub ballots : List Ballot
 
@@ -24,13 +24,14 @@ abbrev pub has_voted : List Ballot → ℕ → ℕ → ℕ → Bool
 has_voted ballots p n t = list_any (λ b. (b.voter == p) && is_on n t b) ballots
 
 -- the answer to a vote of this voter, if the sender is one
-abbrev pub answer_at : Option ℕ → ℕ → ℕ → List Ballot → Put
-answer_at None n t ballots = Stranger
-answer_at (Some p) n t ballots = if has_voted ballots p n t then Repeat else Counted
+abbrev pub answer_in_book : Option ℕ → ℕ → ℕ → List Ballot → VotePut
+answer_in_book None n t ballots = Stranger
+answer_in_book (Some p) n t ballots = if has_voted ballots p n t then Repeat else Counted
 
--- what is kept behind a vote
-abbrev pub kept_with : Kept → Option ℕ → ℕ → ℕ → Outcome → Kept
-kept_with kept None n t outcome = kept
-kept_with kept (Some p) n t outcome =
-    if has_voted kept.ballots p n t then kept
-    else record { voters = kept.voters; ballots = record { voter = p; n = n; t = t; outcome = outcome } ∷ kept.ballots }
+-- what is kept behind a vote: a ballot more, unless the voter has one there
+abbrev pub book_with : KeptVotes → Option ℕ → ℕ → ℕ → Outcome → KeptVotes
+book_with kept None n t outcome = kept
+book_with kept (Some p) n t outcome = record {
+  voters = kept.voters;
+  ballots = if has_voted kept.ballots p n t then kept.ballots else record { voter = p; n = n; t = t; outcome = outcome } ∷ kept.ballots;
+}

@@ -9,9 +9,9 @@ use Rattle.txn_types.specs.declared.message.Node.{Node}
 use Rattle.txn_types.specs.declared.message.Node.TheVariants.{Peer, Orderer}
 use Rattle.node_defs.specs.Same.{same_outcome, has}
 use Rattle.node_defs.specs.Counting.{first_of_each, first_to_reach}
-use Rattle.vote_book.specs.declared.ballot.Put.{Put}
-use Rattle.vote_book.specs.declared.ballot.Put.TheVariants.{Stranger, Repeat, Counted}
-use Rattle.vote_book.specs.Ballots.{Kept, kept_on}
+use Rattle.vote_book.specs.declared.ballot.VotePut.{VotePut}
+use Rattle.vote_book.specs.declared.ballot.VotePut.TheVariants.{Stranger, Repeat, Counted}
+use Rattle.vote_book.specs.Ballots.{KeptVotes, kept_on}
 
 -- a put: a sender's outcome for position t of block n
 pub record Cast : Type 0 where
@@ -33,14 +33,14 @@ voter_of voters (Orderer o) = None
 abbrev pub vote_in : List ℕ → ℕ → ℕ → Cast → Option (ℕ × Outcome)
 vote_in voters n t c = if (c.n == n) && (c.t == t) then option_map (λ p. (p, c.outcome)) (voter_of voters c.from) else None
 
--- the votes of voters on position t of block n
-abbrev pub votes_on : List ℕ → ℕ → ℕ → List Cast → List (ℕ × Outcome)
-votes_on voters n t puts = filter_map (vote_in voters n t) puts
+-- the votes of voters on position t of block n, with who cast them
+abbrev pub cast_on : List ℕ → ℕ → ℕ → List Cast → List (ℕ × Outcome)
+cast_on voters n t puts = filter_map (vote_in voters n t) puts
 
 -- the answer to a vote behind these: the sender is no voter, has voted, or is counted
-abbrev pub answer_to : Option ℕ → List (ℕ × Outcome) → Put
-answer_to None votes = Stranger
-answer_to (Some p) votes = if list_any (λ v. v.0 == p) votes then Repeat else Counted
+abbrev pub answer_to_vote : Option ℕ → List (ℕ × Outcome) → VotePut
+answer_to_vote None votes = Stranger
+answer_to_vote (Some p) votes = if list_any (λ v. v.0 == p) votes then Repeat else Counted
 
 -- the fitting outcome that first stood tau times among these votes of different senders, of which those of agents count
 abbrev pub reached_by : List ℕ → ℕ → Txn → List (ℕ × Outcome) → Option Outcome
@@ -52,6 +52,6 @@ abbrev pub agreed_on : List ℕ → ℕ → Txn → List (ℕ × Outcome) → Op
 agreed_on agents tau txn votes = reached_by agents tau txn (first_of_each votes)
 
 -- a book of these voters stands for these puts: on each position it has the first vote of each voter
-pub record StandsFor (book : Kept) (voters : List ℕ) (puts : List Cast) : Type 0 where
+pub record BookStandsFor (book : KeptVotes) (voters : List ℕ) (puts : List Cast) : Type 0 where
   pub asks : book.voters ≡ voters
-  pub counted : (n t : ℕ) → kept_on n t book.ballots ≡ first_of_each (votes_on voters n t puts)
+  pub counted : (n t : ℕ) → kept_on n t book.ballots ≡ first_of_each (cast_on voters n t puts)

@@ -2,7 +2,7 @@ use txn_types::Outcome;
 
 /// What becomes of a vote that is put into a book.
 #[derive(Clone, Copy, Debug, PartialEq, Eq)]
-pub enum Put {
+pub enum VotePut {
     /// The sender is no voter.
     Stranger,
     /// The sender has a vote on this position of this block.

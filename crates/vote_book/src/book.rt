@@ -1,9 +1,11 @@
-ghost use Rattle.std.specs.Prelude.{◌≡◌, ◌<◌, ◌∷◌, [], List, ℕ, OnOk, OnErr, IfOk, option_copied};
-ghost use Rattle.vote_book.specs.Ballots.{answer_at, has_voted, kept_with};
-ghost use Rattle.vote_book.specs.Puts.{Cast, StandsFor, agreed_on, answer_to, cast_of, voter_of, votes_on};
+ghost use Rattle.std.specs.Prelude.{◌≡◌, ◌<◌, ◌∷◌, [], List, ℕ, OnOk, OnErr, IfOk, IfSome, option_copied};
+ghost use Rattle.txn_types.specs.Fitting.{Fits};
+ghost use Rattle.vote_book.specs.Ballots.{answer_in_book, book_with, has_voted};
+ghost use Rattle.vote_book.specs.Puts.{Cast, BookStandsFor, agreed_on, answer_to_vote, cast_of, cast_on, voter_of};
 
-use crate::ballot::{Ballot, Put};
-use crate::first::{first_agreed, is_among};
+use crate::ballot::{Ballot, VotePut};
+use crate::fitting::{FittingVotes, has_peer};
+use counting_laws::first_to_reach;
 use std::alloc::Global;
 use std::marker::Model;
 use txn_types::{GrowingList, Node, OutOfMemory, Outcome, PeerSet, Txn};
@@ -17,9 +19,9 @@ pub struct Book {
 
 impl Model for Book {
     ghost use Rattle.std.specs.Prelude.{reverse};
-    ghost use Rattle.vote_book.specs.Ballots.{Kept};
+    ghost use Rattle.vote_book.specs.Ballots.{KeptVotes};
 
-    ghost Value = { Kept };
+    ghost Value = { KeptVotes };
 
     ghost view = { λ book. record { voters = book.voters; ballots = reverse book.ballots } };
 }
@@ -35,7 +37,7 @@ fn has_ballot(ballots: &[Ballot], voter: u8, n: u64, t: u16) -> bool
 impl Book {
     /// Holds no votes.
     pub fn new(alloc: Global, voters: &PeerSet) -> Result<Book, OutOfMemory>
-        ensures { IfOk result (λ book. StandsFor book voters.now []) }
+        ensures { IfOk result (λ book. BookStandsFor book voters.now []) }
     {
         Ok(Book {
             voters: voters.copy(),
@@ -51,11 +53,11 @@ impl Book {
         n: u64,
         t: u16,
         outcome: &Outcome,
-    ) -> Result<Put, OutOfMemory>
-        ensures answer { (voters : List ℕ) (puts : List Cast) → StandsFor self.old voters puts →
-            IfOk result (λ put. put ≡ answer_to (voter_of voters from) (votes_on voters n t puts)) }
-        ensures stands { (voters : List ℕ) (puts : List Cast) → StandsFor self.old voters puts →
-            OnOk result (StandsFor self.new voters (cast_of from n t outcome.now ∷ puts)) }
+    ) -> Result<VotePut, OutOfMemory>
+        ensures answer { (voters : List ℕ) (puts : List Cast) → BookStandsFor self.old voters puts →
+            IfOk result (λ put. put ≡ answer_to_vote (voter_of voters from) (cast_on voters n t puts)) }
+        ensures stands { (voters : List ℕ) (puts : List Cast) → BookStandsFor self.old voters puts →
+            OnOk result (BookStandsFor self.new voters (cast_of from n t outcome.now ∷ puts)) }
         ensures err { OnErr result (self.new ≡ self.old) }
     {
         let voter = self.voter(from);
@@ -66,10 +68,13 @@ impl Book {
     /// The outcome that fits `txn` and was the first to have `tau` votes of the agents on position `t` of block `n`.
     pub fn agreed(&self, n: u64, t: u16, agents: &PeerSet, tau: u8, txn: &Txn) -> Option<&Outcome>
         requires { 0 < tau }
-        ensures { (voters : List ℕ) (puts : List Cast) → StandsFor self.now voters puts →
-            option_copied result ≡ agreed_on agents.now tau txn.now (votes_on voters n t puts) }
+        ensures agreed { (voters : List ℕ) (puts : List Cast) → BookStandsFor self.now voters puts →
+            option_copied result ≡ agreed_on agents.now tau txn.now (cast_on voters n t puts) }
+        ensures fits { IfSome result (λ o. Fits txn.now o.now) }
     {
-        first_agreed(n, t, agents.as_slice(), tau, txn, self.ballots.as_slice())
+        let votes = FittingVotes { n, t, agents, txn };
+        let ballot = first_to_reach(&votes, tau, self.ballots.as_slice())?;
+        Some(&ballot.outcome)
     }
 
     /// The voter that a sender is.
@@ -77,7 +82,7 @@ impl Book {
         ensures { result ≡ voter_of self.now.voters from }
     {
         match from {
-            Node::Peer(peer) if is_among(self.voters.as_slice(), peer) => Some(peer),
+            Node::Peer(peer) if has_peer(&self.voters, peer) => Some(peer),
             _ => None,
         }
     }
@@ -88,16 +93,16 @@ impl Book {
         n: u64,
         t: u16,
         outcome: &Outcome,
-    ) -> Result<Put, OutOfMemory>
-        ensures answer { IfOk result (λ put. put ≡ answer_at voter n t self.old.ballots) }
-        ensures kept { OnOk result (self.new ≡ kept_with self.old voter n t outcome.now) }
+    ) -> Result<VotePut, OutOfMemory>
+        ensures answer { IfOk result (λ put. put ≡ answer_in_book voter n t self.old.ballots) }
+        ensures kept { OnOk result (self.new ≡ book_with self.old voter n t outcome.now) }
         ensures err { OnErr result (self.new ≡ self.old) }
     {
         let Some(voter) = voter else {
-            return Ok(Put::Stranger);
+            return Ok(VotePut::Stranger);
         };
         if has_ballot(self.ballots.as_slice(), voter, n, t) {
-            return Ok(Put::Repeat);
+            return Ok(VotePut::Repeat);
         }
         self.ballots.push(Ballot {
             voter,
@@ -105,6 +110,6 @@ impl Book {
             t,
             outcome: outcome.copy(),
         })?;
-        Ok(Put::Counted)
+        Ok(VotePut::Counted)
     }
 }

@@ -3,10 +3,7 @@
 
 mod ballot;
 mod book;
-mod first;
-mod same;
-#[cfg(test)]
-mod tests;
+mod fitting;
 
-pub use ballot::Put;
+pub use ballot::VotePut;
 pub use book::Book;

@@ -147,3 +147,15 @@ fn bytes_of_strings(rt: HostRuntime) -> Result<(), Fail> {
     }
     Ok(())
 }
+
+// The transfer document with a byte that is no UTF-8 in a name.
+#[test]
+fn a_byte_of_a_name(rt: HostRuntime) -> Result<(), Fail> {
+    let mut bytes = Vec::new(rt.alloc());
+    for byte in TRANSFER.as_bytes() {
+        bytes.push(if *byte == b'k' { 255 } else { *byte })?;
+    }
+    let line = line_of(&rt, rt.alloc(), bytes.as_slice())?;
+    assert_eq!(rt; line.as_str(), "parblock: refused: not json\n");
+    Ok(())
+}

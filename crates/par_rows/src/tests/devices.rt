@@ -9,6 +9,9 @@ const TRANSFER_TEXT: &str =
 const OVERFLOW_TEXT: &str =
     "blocks 1\npeer p1 completed 1\nblock 1 736451c8f7eecfcc365addef3327c516f9701079c13dbfe32ef9e21eb649ed19\ntxn 1 bank transfer abort overflow\nstate 2\nvalue a 10\nvalue b 4611686018427387903\nmessages 2\nidle 0\n";
 
+const REQUEST: &str =
+    "{\"client\":\"c1\",\"app\":\"bank\",\"op\":\"transfer\",\"args\":[\"a\",\"b\",4],\"reads\":[\"a\",\"b\"],\"writes\":[\"a\",\"b\"]}";
+
 const EMPTY_TEXT: &str = "blocks 0\npeer p1 completed 0\nstate 1\nvalue a 10\nmessages 0\nidle 0\n";
 
 fn words_of(alloc: Global, line: &str) -> Result<Vec<String>, AllocError> {
@@ -50,7 +53,7 @@ fn in_pieces<R: Threads + Sync>(
 fn pieces(rt: HostRuntime) -> Result<(), Fail> {
     let alloc = rt.alloc();
     let full = replaced(alloc, TRANSFER, "[\"b\",0]", "[\"b\",4611686018427387903]")?;
-    let empty = with_stream(alloc, "")?;
+    let empty = replaced(alloc, TRANSFER, REQUEST, "")?;
     for (document, text) in [
         (TRANSFER, TRANSFER_TEXT),
         (full.as_str(), OVERFLOW_TEXT),

@@ -1,32 +1,6 @@
-//! Lists at their limits: with one item more, the limit is told before any item is looked at.
+//! Streams, schedules, sums, contracts and documents at their greatest length.
 
 use super::*;
-
-// Lists with one item too many.
-#[test]
-fn overfull_lists(rt: HostRuntime) -> Result<(), Fail> {
-    let wrong = wrong_row(&rt, rt.alloc(), "graph", BASE, OVERFULL_LISTS)?;
-    assert_eq!(rt; wrong.as_str(), "");
-    Ok(())
-}
-
-const OVERFULL_LISTS: &str = "[['a',10],['b',0]] -> [<4097 times 0>] => limit records 4096
-['o1','o2'] -> [<17 times 0>] => limit orderers 16
-['p1','p2'] -> [<17 times 0>] => limit peers 16
-'apps':[ -> 'apps':[<17 times 0>],'x':[ => limit apps 16
-'agents':['p1'] -> 'agents':[<17 times 0>] => limit agents 16
-'agents':['p2'] -> 'agents':[<17 times 0>] => limit agents 16
-['c1'] -> [<65 times 0>] => limit clients 64
-['a',4] -> [<65 times -1>] => limit args 64
-'reads':['b'] -> 'reads':[<65 times 'b'>] => limit set 64
-'writes':['a'] -> 'writes':[<65 times 0>] => limit set 64
-['o2','p2'] -> [<33 times 'o2'>] => limit faulty 32
-'txns':[1] -> 'txns':[<257 times 0>] => limit txns 256
-[1]} -> [1],'preds':[[<256 times 256>]]} => accepted
-[1]} -> [1],'preds':[[<257 times 0>]]} => limit preds 256
-[1]} -> [1],'preds':[<257 times 0>]} => field schedule[2].preds
-'votes':[ -> 'votes':[<255 times 0>, => limit votes 256
-'out':[5] -> 'out':[<17 times -1>] => limit out 16";
 
 // The stream's items, requests and configurations are counted, each before its keys.
 #[test]
@@ -68,39 +42,6 @@ const LONG_SCHEDULES: &str =
 {'do':'all'} -> <1024 times {'do':'commit','from':'p2','block':1,'votes':[]}>,{'do':'block'} => limit false 1024
 {'do':'all'} -> <1024 times {'do':'commit','from':'p2','block':1,'votes':[]}>,{'do':'commit','x':1} => limit false 1024
 {'do':'all'} -> <1024 times {'do':'commit','from':'p2','block':1,'votes':[]}>,{'do':'comit'} => field schedule[1025].do";
-
-// Lists of as many items as they take are accepted, all in one document.
-#[test]
-fn full_lists(rt: HostRuntime) -> Result<(), Fail> {
-    let text = full_document(rt.alloc())?;
-    let line = line_of_json(&rt, rt.alloc(), text.as_str())?;
-    assert_eq!(rt; line.as_str(), "");
-    Ok(())
-}
-
-fn full_document(alloc: Global) -> Result<String, Fail> {
-    let mut text = String::from_str(alloc, BASE)?;
-    for edit in FULL_LISTS.lines() {
-        text = edited(alloc, text.as_str(), edit)?;
-    }
-    Ok(text)
-}
-
-const FULL_LISTS: &str = "['b',0] -> ['b',0],<4094 times ['r#',0]>
-['o1','o2'] -> ['o1','o2',<14 times 'o1#'>]
-'quorum':1 -> 'quorum':16
-['p1','p2'] -> ['p1','p2',<14 times 'p1#'>]
-'agents':['p1'] -> 'agents':['p2','p1',<14 times 'p1#'>]
-'tau':1 -> 'tau':16
-['c1'] -> ['c1',<63 times 'd#'>]
-r=n;}'} -> r=n;}'},<15 times {'name':'a#','agents':['p1'],'tau':1,'clients':[],'contract':'op f(){}'}>
-'reads':[] -> 'reads':[<64 times 'r#'>]
-'writes':[] -> 'writes':[<64 times 'r#'>]
-'args':[] -> 'args':[<64 times 'r#'>]
-['o2','p2'] -> ['o2','p2','o1','p1',<14 times 'o1#','p1#'>]
-'txns':[1] -> 'txns':[<256 times 1>]
-'votes':[ -> 'votes':[<254 times {'txn':256,'out':[]}>,
-'out':[5] -> 'out':[<16 times null>]";
 
 // The transactions of all false blocks are at most 16,384; the document's own list comes last.
 #[test]
@@ -146,7 +87,7 @@ fn long_contracts(rt: HostRuntime) -> Result<(), Fail> {
 }
 
 // The base document with so many blanks before its contract of 29 bytes.
-fn spaced(alloc: Global, blanks: usize) -> Result<String, AllocError> {
+fn spaced(alloc: Global, blanks: usize) -> Result<String, Trouble> {
     let new = format!(in alloc; "{}op f(r", " ".repeat(alloc, blanks)?)?;
     replaced(alloc, BASE, "op f(r", new.as_str())
 }

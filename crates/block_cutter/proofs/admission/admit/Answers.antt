@@ -3,17 +3,18 @@ use Rattle.std.proofs.lemmas.List.{length-map}
 use Rattle.txn_types.specs.declared.txn.Txn.{Txn}
 use Rattle.txn_types.specs.declared.stream.Reject.{Reject}
 use Rattle.oxii_defs.specs.Table.{IsLawfulTxn}
-use Rattle.node_defs.specs.Admission.{named}
+use Rattle.node_defs.specs.Admission.{admit, first_named}
+use Rattle.node_defs.proofs.Admitted.{admit_lawful}
 use Rattle.txn_core.specs.Meant.{op_of, formal_of}
 use Rattle.txn_core.specs.MeantTable.{app_of, table_of}
-use Rattle.block_cutter.proofs.AdmitLemmas.{found_app, found_op, found_in, passed_lawful}
+use Rattle.block_cutter.proofs.AdmitLemmas.{found_app, found_op}
 use Rattle.block_cutter.proofs.admission.admit.Goals as goal
 
 pub op_from-requires : goal.op_from-requires
 op_from-requires c =
     let table = table_of c.args.table.now in
     let app = c.in-Some.app.now in
-    let found : named (λ a. a.name) c.args.request.now.app 0 table.apps ≡ Some (c.in-Some.app_number, app_of app) = grind (arith) in
+    let found : first_named (λ a. a.name) c.args.request.now.app 0 table.apps ≡ Some (c.in-Some.app_number, app_of app) = grind (arith) in
     let lawful = found_app table c.args.request.now.app c.in-Some.app_number (app_of app) c.requires.table found in
     omega (arith, lawful.ops.1, length-map app.ops op_of, ap length c.as_slice-2.ensures)
 
@@ -22,8 +23,8 @@ call-requires-clause-params c =
     let table = table_of c.args.table.now in
     let app = c.in-Some.app.now in
     let op = c.in-Some-op_from.op.now in
-    let found : named (λ a. a.name) c.args.request.now.app 0 table.apps ≡ Some (c.in-Some.app_number, app_of app) = grind (arith) in
-    let found_too : named (λ o. o.name) c.args.request.now.op 0 (app_of app).ops ≡ Some (c.in-Some-op_from.op_number, op_of op) = grind (arith) in
+    let found : first_named (λ a. a.name) c.args.request.now.app 0 table.apps ≡ Some (c.in-Some.app_number, app_of app) = grind (arith) in
+    let found_too : first_named (λ o. o.name) c.args.request.now.op 0 (app_of app).ops ≡ Some (c.in-Some-op_from.op_number, op_of op) = grind (arith) in
     let lawful = found_app table c.args.request.now.app c.in-Some.app_number (app_of app) c.requires.table found in
     let well = found_op table c.args.request.now.op c.in-Some-op_from.op_number (app_of app) (op_of op) lawful found_too in
     omega (arith, well.count, length-map op.params formal_of)
@@ -32,11 +33,5 @@ pub returns-clause-lawful : goal.returns-clause-lawful
 returns-clause-lawful c =
     let table = table_of c.args.table.now in
     let q = c.args.request.now in
-    let app = c.in-Some.app.now in
-    let op = c.in-Some-op_from.op.now in
-    let t : Txn = record { app = c.in-Some.app_number; op = c.in-Some-op_from.op_number; args = q.args; reads = q.reads; writes = q.writes } in
-    let found : named (λ a. a.name) q.app 0 table.apps ≡ Some (t.app, app_of app) = grind (arith) in
-    let found_too : named (λ o. o.name) q.op 0 (app_of app).ops ≡ Some (t.op, op_of op) = grind (arith) in
-    let lawful = c.requires.request in
-    subst (λ (r : Result Txn Reject). IfOk r (IsLawfulTxn table)) (sym c.call.ensures)
-    (passed_lawful table (op_of op) t (found_in table q.app q.op t (app_of app) (op_of op) found found_too) lawful.args lawful.reads lawful.writes)
+    let is : c.call.result ≡ admit table q = grind (arith) in
+    subst (λ (r : Result Txn Reject). IfOk r (IsLawfulTxn table)) (sym is) (admit_lawful table q c.requires.request)

@@ -32,24 +32,24 @@ returns-in-Err-Syntax c =
 pub returns-then-over : goal.returns-then-over
 returns-then-over c =
     let same = c.as_slice-placed-items.ensures ∙ c.in-Ok.ensures in
-    let a = at_of c.in-Ok-step.next c.step.new.nest in
+    let a = at_of c.in-Ok-advance.next c.advance.new.nest in
     let over : (passes (tally_of c.loop-placed.counts) c.placed-item.result || ends_chain a.mode) ≡ true = elim c.then-over.branch [
       | then-over-via-then-over w ↦ first_true _ _ (sym c.passes-over.ensures ∙ w.if-over.true)
       | then-over-via-else-over+then-ends_chain w ↦ either_true _ _ (sym w.ends_chain.ensures ∙ w.if-ends_chain.true)
     ] in
     limited (tokens c.args.text.now) c.loop-placed.placed-index c.placed-item.result (rw same at c.loop-placed-test.true) (rw same at c.placed-item.is)
-    (at_of c.loop-placed.mode c.loop-placed.nest) (tally_of c.loop-placed.counts) (length c.args.text.now) (reading c.args.text.now) c.loop-placed.invariant.left a c.in-Ok-step.ensures over
+    (at_of c.loop-placed.mode c.loop-placed.nest) (tally_of c.loop-placed.counts) (length c.args.text.now) (reading c.args.text.now) c.loop-placed.invariant.left a c.in-Ok-advance.ensures over
 
 pub loop-placed-preserved : goal.loop-placed-preserved
 loop-placed-preserved c =
     let same = c.as_slice-placed-items.ensures ∙ c.in-Ok.ensures in
-    let a = at_of c.in-Ok-step.next c.step.new.nest in
+    let a = at_of c.in-Ok-advance.next c.advance.new.nest in
     let good = sym c.passes-over.ensures ∙ c.if-over.false in
     let within = both_false (passes (tally_of c.loop-placed.counts) c.placed-item.result) (ends_chain a.mode) good (sym c.ends_chain.ensures ∙ c.if-ends_chain.false) in
     rw c.in-Ok-count.ensures (record {
       small = small_more (tally_of c.loop-placed.counts) c.placed-item.result c.loop-placed.placed-index c.loop-placed.invariant.small good;
       left = turn (tokens c.args.text.now) c.loop-placed.placed-index c.placed-item.result (rw same at c.loop-placed-test.true) (rw same at c.placed-item.is)
-          (at_of c.loop-placed.mode c.loop-placed.nest) (tally_of c.loop-placed.counts) (length c.args.text.now) (reading c.args.text.now) c.loop-placed.invariant.left a c.in-Ok-step.ensures within;
+          (at_of c.loop-placed.mode c.loop-placed.nest) (tally_of c.loop-placed.counts) (length c.args.text.now) (reading c.args.text.now) c.loop-placed.invariant.left a c.in-Ok-advance.ensures within;
     })
 
 pub returns : goal.returns

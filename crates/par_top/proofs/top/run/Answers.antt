@@ -10,20 +10,20 @@ pub returns-in-Some-clause-complete : goal.returns-in-Some-clause-complete
 returns-in-Some-clause-complete g c command bytes input says told short means taken read written =
     is_answered c.in-Some.command c.run_command.result _ _ bytes input _ _ _ _ exactly_one told short means
     (subst (λ (k : Command). Takes k input) (one_command _ command c.in-Some.command says c.in-Some.ensures) taken) read written
-    c.run_command.ensures.not_usage c.run_command.ensures.refused c.run_command.ensures.read_fault c.run_command.ensures.write_fault
+    c.run_command.ensures.not_usage c.run_command.ensures.refused (λ e. (c.run_command.ensures.read_fault e).rose) c.run_command.ensures.write_fault
 
 pub returns-in-Some-clause-other : goal.returns-in-Some-clause-other
 returns-in-Some-clause-other g c command bytes input says told short means other read =
     is_other c.in-Some.command c.run_command.result _ _ _ _ bytes input _ _ (exactly_one bytes) told short means
     (λ taken. other (subst (λ (k : Command). Takes k input) (sym (one_command _ command c.in-Some.command says c.in-Some.ensures)) taken)) read
-    c.run_command.ensures.ok c.run_command.ensures.not_usage c.run_command.ensures.refused c.run_command.ensures.read_fault c.run_command.ensures.part
+    c.run_command.ensures.ok c.run_command.ensures.not_usage c.run_command.ensures.refused (λ e. (c.run_command.ensures.read_fault e).rose) c.run_command.ensures.part
 
 pub returns-in-Some-clause-faulty : goal.returns-in-Some-clause-faulty
 returns-in-Some-clause-faulty g c command bytes fault says told short is read =
     is_faulty c.in-Some.command c.run_command.result _ _ _ _ bytes fault _ _ (exactly_one bytes) told short is read
-    c.run_command.ensures.ok c.run_command.ensures.not_usage c.run_command.ensures.refused c.run_command.ensures.read_fault c.run_command.ensures.part
+    c.run_command.ensures.ok c.run_command.ensures.not_usage c.run_command.ensures.refused (λ e. (c.run_command.ensures.read_fault e).rose) c.run_command.ensures.part
 
 pub returns-in-Some-clause-too_long : goal.returns-in-Some-clause-too_long
 returns-in-Some-clause-too_long g c command bytes says told long read =
     is_long c.in-Some.command c.run_command.result _ _ _ _ bytes _ _ told long read
-    c.run_command.ensures.ok c.run_command.ensures.not_usage c.run_command.ensures.refused c.run_command.ensures.read_fault c.run_command.ensures.part
+    c.run_command.ensures.ok c.run_command.ensures.not_usage c.run_command.ensures.refused (λ e. (c.run_command.ensures.read_fault e).rose) c.run_command.ensures.part

@@ -2,7 +2,7 @@ use Rattle.std.proofs.Common.{◌≡◌, ◌++◌, drop}
 use Rattle.std.specs.List.{flat_map}
 use Rattle.oxii_defs.specs.Lines.{entry_lines}
 use Rattle.txn_core.specs.MeantTable.{table_of}
-use Rattle.report_text.specs.Parts.{entries_of}
+use Rattle.hash_ledger.specs.Ledgers.{entries_of}
 use Rattle.report_text.proofs.peer.push_ledger.Given as goal
 
 abbrev pub invariant-loop-i : goal.invariant-loop-i

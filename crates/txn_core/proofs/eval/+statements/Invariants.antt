@@ -21,8 +21,8 @@ invariant-run-loop-stmt l =
     × (length l.initial.scratch.locals ≤ length l.scratch.locals)
 
 -- the statements below, and then the order of the calls
-abbrev pub decreases-step : goal.decreases-step
-decreases-step l = 4 * weight (stmt_of l.stmt.now)
+abbrev pub decreases-run_statement : goal.decreases-run_statement
+decreases-run_statement l = 4 * weight (stmt_of l.stmt.now)
 
 abbrev pub decreases-repeat : goal.decreases-repeat
 decreases-repeat l = 4 * weights (stmts_of l.body.now) + 3

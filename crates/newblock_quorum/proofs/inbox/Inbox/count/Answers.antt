@@ -1,29 +1,39 @@
-use Rattle.std.proofs.Common.{List, reverse, refl, ap, sym, ◌∙◌}
-use Rattle.newblock_quorum.specs.declared.entry.Entry.{Entry}
-use Rattle.newblock_quorum.specs.Entries.{Kept, has_sent, kept_with}
-use Rattle.newblock_quorum.proofs.EntryLemmas.{repeat_answer, repeat_keeps, counted_answer, counted_keeps}
+use Rattle.std.proofs.Common.{List, Bool, ◌∷◌, ◌==◌, ◌&&◌, reverse, refl, ap, sym, ◌∙◌}
+use Rattle.std.specs.List.{list_any}
+use Rattle.counting_laws.proofs.Kept.{told_there, told_none, kept_more}
+use Rattle.newblock_quorum.specs.declared.entry.Received.{Received}
+use Rattle.newblock_quorum.specs.declared.entry.NewBlockPut.TheVariants.{Repeat, Counted}
+use Rattle.newblock_quorum.specs.Entries.{KeptNewBlocks, inbox_with, is_numbered}
 use Rattle.newblock_quorum.proofs.inbox.Inbox.count.Goals as goal
 
 pub returns-then-has_entry-clause-answer : goal.returns-then-has_entry-clause-answer
 returns-then-has_entry-clause-answer c =
-    let turned = sym (ap (λ (k : Kept). k.entries) c.self.view_is) ∙ ap reverse (sym c.as_slice.ensures) in
-    repeat_answer c.args.orderer c.args.block.number c.args.self.now c.as_slice.result.now turned (sym c.has_entry.ensures ∙ c.if-has_entry.true)
+    let there : Received → Bool = λ e. (e.orderer == c.args.orderer) && is_numbered c.args.block.number e in
+    let turned = sym (ap (λ (k : KeptNewBlocks). k.entries) c.self.view_is) ∙ ap reverse (sym c.as_slice.ensures) in
+    told_there there c.args.self.now.entries c.as_slice.result.now Repeat Counted turned (sym c.has_entry.ensures ∙ c.if-has_entry.true)
 
 pub returns-then-has_entry-clause-kept : goal.returns-then-has_entry-clause-kept
 returns-then-has_entry-clause-kept c =
-    let turned = sym (ap (λ (k : Kept). k.entries) c.self.view_is) ∙ ap reverse (sym c.as_slice.ensures) in
-    repeat_keeps c.args.orderer c.args.block c.args.graph c.args.self.now c.as_slice.result.now turned (sym c.has_entry.ensures ∙ c.if-has_entry.true)
+    let kept = c.args.self.now in
+    let there : Received → Bool = λ e. (e.orderer == c.args.orderer) && is_numbered c.args.block.number e in
+    let entry : Received = record { orderer = c.args.orderer; block = c.args.block; graph = c.args.graph } in
+    let turned = sym (ap (λ (k : KeptNewBlocks). k.entries) c.self.view_is) ∙ ap reverse (sym c.as_slice.ensures) in
+    let with_entries : List Received → KeptNewBlocks = λ es. record { orderers = kept.orderers; quorum = kept.quorum; kind = kept.kind; entries = es } in
+    ap with_entries (told_there there kept.entries c.as_slice.result.now kept.entries (entry ∷ kept.entries) turned (sym c.has_entry.ensures ∙ c.if-has_entry.true))
 
 pub returns-clause-answer : goal.returns-clause-answer
 returns-clause-answer c =
-    let turned = sym (ap (λ (k : Kept). k.entries) c.self.view_is) ∙ ap reverse (sym c.as_slice.ensures) in
-    counted_answer c.args.orderer c.args.block.number c.args.self.now c.as_slice.result.now turned (sym c.has_entry.ensures ∙ c.if-has_entry.false)
+    let there : Received → Bool = λ e. (e.orderer == c.args.orderer) && is_numbered c.args.block.number e in
+    let turned = sym (ap (λ (k : KeptNewBlocks). k.entries) c.self.view_is) ∙ ap reverse (sym c.as_slice.ensures) in
+    told_none there c.args.self.now.entries c.as_slice.result.now Repeat Counted turned (sym c.has_entry.ensures ∙ c.if-has_entry.false)
 
 pub returns-clause-kept : goal.returns-clause-kept
 returns-clause-kept c =
     let inside = c.self.inside in
-    let with_entries : List Entry → Kept = λ es. record { orderers = inside.orderers; quorum = inside.quorum; kind = inside.kind; entries = reverse es } in
-    let unsent = sym (ap (λ es. has_sent es c.args.orderer c.args.block.number) c.as_slice.ensures) ∙ (sym c.has_entry.ensures ∙ c.if-has_entry.false) in
-    ap with_entries c.in_ok-push.ensures.ok
-    ∙ (counted_keeps c.args.orderer c.args.block c.args.graph (with_entries inside.entries) inside.entries refl unsent
-    ∙ ap (λ k. kept_with k c.args.orderer c.args.block c.args.graph) c.self.view_is)
+    let there : Received → Bool = λ e. (e.orderer == c.args.orderer) && is_numbered c.args.block.number e in
+    let entry : Received = record { orderer = c.args.orderer; block = c.args.block; graph = c.args.graph } in
+    let with_entries : List Received → KeptNewBlocks = λ es. record { orderers = inside.orderers; quorum = inside.quorum; kind = inside.kind; entries = es } in
+    let unsent = sym (ap (list_any there) c.as_slice.ensures) ∙ (sym c.has_entry.ensures ∙ c.if-has_entry.false) in
+    ap (λ es. with_entries (reverse es)) c.in_ok-push.ensures.ok
+    ∙ (ap with_entries (kept_more there (reverse inside.entries) inside.entries entry refl unsent)
+    ∙ ap (λ k. inbox_with k c.args.orderer c.args.block c.args.graph) c.self.view_is)

@@ -1,7 +1,0 @@
-use Rattle.std.specs.List.{All}
-use Rattle.node_defs.specs.Admission.{IsLawfulItem}
-use Rattle.txn_core.specs.MeantTable.{table_of}
-use Rattle.block_cutter.proofs.tests.stream.add_steps.Given as goal
-
-abbrev pub invariant-loop-step : goal.invariant-loop-step
-invariant-loop-step l = All (IsLawfulItem (table_of l.table)) l.items

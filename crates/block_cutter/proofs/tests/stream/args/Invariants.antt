@@ -1,7 +1,0 @@
-use Rattle.std.specs.List.{All}
-use Rattle.node_defs.specs.Admission.{IsRequestArg}
-use Rattle.txn_core.specs.MeantTable.{table_of}
-use Rattle.block_cutter.proofs.tests.stream.args.Given as goal
-
-abbrev pub invariant-loop-arg : goal.invariant-loop-arg
-invariant-loop-arg l = All (IsRequestArg (table_of l.table)) l.all

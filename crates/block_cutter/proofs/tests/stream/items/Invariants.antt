@@ -1,7 +1,0 @@
-use Rattle.std.specs.List.{All}
-use Rattle.node_defs.specs.Admission.{IsLawfulItem}
-use Rattle.txn_core.specs.MeantTable.{table_of}
-use Rattle.block_cutter.proofs.tests.stream.items.Given as goal
-
-abbrev pub invariant-loop : goal.invariant-loop
-invariant-loop l = All (IsLawfulItem (table_of l.table)) l.items

@@ -1,0 +1,5 @@
+use Rattle.counting_laws.proofs.Reaching.{reached_stays}
+use Rattle.counting_laws.proofs.laws.reached_stays.Goals as goal
+
+pub returns : goal.returns
+returns g c = record { law = reached_stays }

@@ -1,5 +1,0 @@
-use Rattle.counting_laws.proofs.Firsts.{senders_stay}
-use Rattle.counting_laws.proofs.senders_stay.Goals as goal
-
-pub returns : goal.returns
-returns g c = record { law = senders_stay }

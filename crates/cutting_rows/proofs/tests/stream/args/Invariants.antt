@@ -1,0 +1,7 @@
+use Rattle.std.specs.List.{All}
+use Rattle.node_defs.specs.Admission.{IsRequestArg}
+use Rattle.txn_core.specs.MeantTable.{table_of}
+use Rattle.cutting_rows.proofs.tests.stream.args.Given as goal
+
+abbrev pub invariant-loop-arg : goal.invariant-loop-arg
+invariant-loop-arg l = All (IsRequestArg (table_of l.table)) l.all

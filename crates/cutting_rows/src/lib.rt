@@ -1,0 +1,5 @@
+//! Worked cuts and rejects.
+#![tactic(auto)]
+
+#[cfg(test)]
+mod tests;

@@ -1,0 +1,4 @@
+pub mod Admitted
+pub mod LawfulEvents
+pub mod NamedItems
+pub mod SameLemmas

@@ -1,0 +1,5 @@
+//! Tables of graphs, votes and NEWBLOCKs.
+#![tactic(auto)]
+
+#[cfg(test)]
+mod tests;

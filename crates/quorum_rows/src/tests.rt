@@ -1,0 +1,5 @@
+//! What is told of a graph, and what votes and NEWBLOCKs come to, with ample memory.
+
+mod graphs;
+mod newblocks;
+mod votes;
