@@ -1,0 +1,15 @@
+//! What a board is made for.
+use board_work::Own;
+use std::snapshot::Snapshot;
+use txn_core::Table;
+use txn_types::{Known, Txns, Values};
+
+/// A plan as clauses see it. It has no bytes.
+#[derive(Drop)]
+pub struct About {
+    pub table: Snapshot<Table>,
+    pub txns: Snapshot<Txns>,
+    pub known: Snapshot<Known>,
+    pub own: Snapshot<Own>,
+    pub base: Snapshot<Values>,
+}

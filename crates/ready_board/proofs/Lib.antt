@@ -1,0 +1,9 @@
+pub mod PassFacts
+pub mod Filling
+pub mod BoardFacts
+pub mod StateFacts
+pub mod Decode
+pub mod Closed
+pub mod Opens
+pub mod Gathered
+pub mod Firsts

@@ -1,0 +1,5 @@
+pub mod States
+pub mod Sound
+pub mod Starts
+pub mod Fitted
+pub mod Traced

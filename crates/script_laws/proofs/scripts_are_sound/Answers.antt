@@ -1,0 +1,5 @@
+use Rattle.script_laws.proofs.Sound.{sound}
+use Rattle.script_laws.proofs.scripts_are_sound.Goals as goal
+
+pub returns : goal.returns
+returns c = sound

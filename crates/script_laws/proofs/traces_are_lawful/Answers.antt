@@ -1,0 +1,5 @@
+use Rattle.script_laws.proofs.Traced.{traces_law}
+use Rattle.script_laws.proofs.traces_are_lawful.Goals as goal
+
+pub returns : goal.returns
+returns c = traces_law

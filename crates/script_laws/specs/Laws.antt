@@ -1,0 +1,28 @@
+-- What the core of a board knows of a plan is right: the statements.
+use Rattle.std.specs.Prelude.{◌≡◌, ◌↔◌, ℕ, List, Option, Contains, length, map}
+use Rattle.txn_types.specs.declared.txn.Kind.TheVariants.{Full}
+use Rattle.board_core.specs.declared.view.View.{View}
+use Rattle.board_core.specs.Counts.{Run}
+use Rattle.board_core.specs.Script.{IsSound}
+use Rattle.board_core.specs.Traces.{IsTrace}
+use Rattle.board_defs.specs.Closure.{Plan, IsLawfulPlan, ran_positions}
+use Rattle.board_defs.specs.Trace.{Span, IsLawfulTrace}
+use Rattle.board_work.specs.Scripts.{script, AreHeld}
+use Rattle.script_laws.specs.Placed.{span_of_run, placed}
+
+-- a lawful plan whose graph has every conflict
+pub record IsFullPlan (plan : Plan) : Type 0 where
+  pub lawful : IsLawfulPlan plan
+  pub full : plan.table.kind ≡ Full
+
+-- the rule can stand over the script of such a plan
+abbrev pub ScriptsAreSound : Type 0
+ScriptsAreSound = (plan : Plan) → IsFullPlan plan → AreHeld plan → IsSound (script plan)
+
+-- the runs of the last pass, in order of position, are a lawful trace of what ran, and no other
+pub record IsLawfulClose (plan : Plan) (v : View) (spans : List Span) : Type 0 where
+  pub trace : IsLawfulTrace plan.table.kind plan.txns 16 (ran_positions plan) spans
+  pub same : (s : Span) → Contains spans s ↔ Contains (map span_of_run v.spans) s
+
+abbrev pub TracesAreLawful : Type 0
+TracesAreLawful = (plan : Plan) (v : View) (run_at : ℕ → Option Run) → IsFullPlan plan → IsTrace (script plan) v run_at → IsLawfulClose plan v (placed run_at (length plan.txns))

@@ -1,0 +1,3 @@
+pub use Rattle.board_work.specs.Scripts
+pub mod Placed
+pub mod Laws

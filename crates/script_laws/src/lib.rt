@@ -1,0 +1,14 @@
+//! What the core of a board knows of a plan is right, and what its closing comes to is what the plan's definitions say.
+#![tactic(auto)]
+
+ghost use Rattle.script_laws.specs.Laws.{ScriptsAreSound, TracesAreLawful};
+
+/// The rule of a board can stand over the script of a plan of kind full.
+pub fn scripts_are_sound()
+    ensures { ScriptsAreSound }
+{}
+
+/// The runs of the last pass, in order of position, are a lawful trace.
+pub fn traces_are_lawful()
+    ensures { TracesAreLawful }
+{}
