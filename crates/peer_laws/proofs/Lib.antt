@@ -1,0 +1,10 @@
+pub mod Unopened
+pub mod Turn
+pub mod Above
+pub mod Steps
+pub mod Done
+pub mod Exits
+pub mod Work
+pub mod RunLemmas
+pub mod NoteLemmas
+pub mod Taking

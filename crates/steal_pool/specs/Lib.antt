@@ -1,0 +1,2 @@
+pub use Rattle.board_work.specs.Plans
+pub mod Plain
