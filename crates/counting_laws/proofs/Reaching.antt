@@ -5,12 +5,8 @@ use Rattle.std.proofs.lemmas.Bool.{cond-true, cond-false}
 use Rattle.std.proofs.lemmas.Simd.{map-map}
 use Rattle.node_defs.specs.Counting.{first_to_reach}
 use Rattle.counting_laws.specs.Contents.{contents}
-use Rattle.counting_laws.proofs.Reversed.{reverse-take-more, reverse-front, count_by-cons, count_by-reverse}
-
--- what has reached the count first stays the first
-pub reached_stays : {A : Type 0} (same : A → A → Bool) (q : ℕ) (xs later : List A) (x : A) → first_to_reach same q xs ≡ Some x → first_to_reach same q (later ++ xs) ≡ Some x
-reached_stays same q xs [] x h = h
-reached_stays same q xs (y ∷ later) x h = rw (reached_stays same q xs later x h) refl
+use Rattle.node_defs.proofs.CountingLemmas.{reached_stays, count_by-cons}
+use Rattle.counting_laws.proofs.Reversed.{reverse-take-more, reverse-front, count_by-reverse}
 
 count_by-contents : {A B : Type 0} (f : A → B) (p : A → Bool) (q : B → Bool) (xs : List A) → count_by q (contents f p xs) ≡ count_by (λ x. p x && q (f x)) xs
 count_by-contents f p q [] = refl

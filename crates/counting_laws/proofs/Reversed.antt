@@ -4,7 +4,6 @@ use Rattle.std.specs.List.{list_any}
 use Rattle.std.proofs.Common.{sym, ◌∙◌, ap}
 use Rattle.std.proofs.lemmas.List.{reverse-append, take_more, take-append-drop}
 use Rattle.std.proofs.lemmas.List.Sorted.{IsPermutation-reverse, list_any-IsPermutation, sum_by-IsPermutation}
-use Rattle.std.proofs.lemmas.List.Sums.{sum_by-cons}
 
 -- a test of some element doesn't look at the order
 pub list_any-reverse : {A : Type 0} (p : A → Bool) (xs : List A) → list_any p (reverse xs) ≡ list_any p xs
@@ -21,10 +20,6 @@ reverse-take-more xs i x l e = ap reverse (take_more xs i x l ∙ ap (λ y. take
 -- the first i elements stand behind the others
 pub reverse-front : {A : Type 0} (xs : List A) (i : ℕ) → reverse xs ≡ reverse (drop i xs) ++ reverse (take i xs)
 reverse-front xs i = ap reverse (sym (take-append-drop i xs)) ∙ reverse-append (take i xs) (drop i xs)
-
--- a count looks at the first, and at the rest
-pub count_by-cons : {A : Type 0} (p : A → Bool) (y : A) (ys : List A) → count_by p (y ∷ ys) ≡ cond (p y) 1 0 + count_by p ys
-count_by-cons p y ys = sum_by-cons (λ x. cond (p x) 1 0) y ys
 
 -- a count doesn't look at the order
 pub count_by-reverse : {A : Type 0} (p : A → Bool) (xs : List A) → count_by p (reverse xs) ≡ count_by p xs

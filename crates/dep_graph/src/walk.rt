@@ -3,7 +3,7 @@
 ghost use Rattle.std.specs.Prelude.{◌≡◌, ◌≤◌, ◌<◌, [], ◌∷◌, ◌+◌, length, drop, MatchOption, IfSome};
 ghost use Rattle.std.specs.List.{slice_index_or};
 ghost use Rattle.std.specs.Iterator.{YieldsFirst, item_count};
-ghost use Rattle.node_defs.specs.Same.{has};
+ghost use Rattle.oxii_defs.specs.State.{contains};
 ghost use Rattle.dep_graph.specs.Successors.{successors_from, successors_of};
 
 use std::marker::Model;
@@ -70,7 +70,7 @@ fn first_from(graph: &Graph, t: u16, start: u16) -> Option<u16>
 // Whether `j` depends on `t`.
 pub(crate) fn is_after(graph: &Graph, t: u16, j: u16) -> bool
     requires { j < length graph.now.preds }
-    ensures { result ≡ has (slice_index_or graph.now.preds j []) t }
+    ensures { result ≡ contains (slice_index_or graph.now.preds j []) t }
 {
-    graph.preds(j).contains(&t)
+    graph.has_pred(j, t)
 }

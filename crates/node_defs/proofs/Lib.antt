@@ -2,3 +2,4 @@ pub mod Admitted
 pub mod LawfulEvents
 pub mod NamedItems
 pub mod SameLemmas
+pub mod CountingLemmas

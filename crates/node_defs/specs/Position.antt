@@ -3,9 +3,9 @@ use Rattle.std.specs.Prelude.{ℕ, zero, suc, Bool, ◌&&◌, not, if◌then◌e
 use Rattle.txn_types.specs.Fitting.{is_fit}
 use Rattle.txn_types.specs.declared.txn.Outcome.{Outcome}
 use Rattle.txn_types.specs.declared.txn.Txn.{Txn}
-use Rattle.oxii_defs.specs.State.{State}
+use Rattle.oxii_defs.specs.State.{State, contains}
 use Rattle.known_defs.specs.Known.{txn_at, after_known, knows_all}
-use Rattle.node_defs.specs.Same.{same_outcome, has}
+use Rattle.node_defs.specs.Same.{same_outcome}
 use Rattle.node_defs.specs.Counting.{first_of_each, first_to_reach}
 use Rattle.node_defs.specs.Rules.{Rules}
 use Rattle.node_defs.specs.Log.{Log, votes_in}
@@ -26,7 +26,7 @@ pub record Standing : Type 0 where
 
 -- p is an agent of t's application
 abbrev pub is_agent : Rules → ℕ → Txn → Bool
-is_agent rules p t = has (rules.agents t.app) p
+is_agent rules p t = contains (rules.agents t.app) p
 
 -- the block is accepted, and each predecessor of t is known, where the positions before it stand like this
 abbrev pub is_ready : Rules → Work → ℕ → Bool → List Standing → Bool

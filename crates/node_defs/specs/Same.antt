@@ -1,6 +1,5 @@
 -- Tests of equality for the flat data.
 use Rattle.std.specs.Prelude.{ℕ, ◌==◌, Bool, true, false, ◌&&◌, List, [], ◌∷◌, Option, Some, None}
-use Rattle.std.specs.List.{list_any}
 use Rattle.txn_types.specs.declared.txn.Reason.{Reason}
 use Rattle.txn_types.specs.declared.txn.Reason.TheVariants.{Require, Overflow, Underflow, ZeroDivisor, Undeclared}
 use Rattle.txn_types.specs.declared.txn.Arg.{Arg}
@@ -71,7 +70,3 @@ abbrev pub same_node : Node → Node → Bool
 same_node (Peer p) (Peer q) = p == q
 same_node (Orderer o) (Orderer q) = o == q
 same_node _ _ = false
-
--- a list of numbers has this one
-abbrev pub has : List ℕ → ℕ → Bool
-has xs x = list_any (λ y. y == x) xs

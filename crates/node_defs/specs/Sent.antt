@@ -6,7 +6,7 @@ use Rattle.txn_types.specs.declared.message.Vote.{Vote}
 use Rattle.txn_types.specs.declared.message.Commit.{Commit}
 use Rattle.oxii_defs.specs.Dependency.{graph_of}
 use Rattle.known_defs.specs.Known.{txn_at, no_outcome}
-use Rattle.node_defs.specs.Same.{has}
+use Rattle.oxii_defs.specs.State.{contains}
 use Rattle.node_defs.specs.Rules.{Rules, in_force}
 use Rattle.node_defs.specs.Log.{Letter, Log}
 use Rattle.node_defs.specs.Accepted.{accepted_after}
@@ -39,12 +39,12 @@ run_order rules w (e ∷ L) = newly_ran rules w e L (length w.txns) ++ run_order
 abbrev pub other_app_follows : ℕ → ℕ → List (List ℕ) → List Txn → Bool
 other_app_follows t app [] later = false
 other_app_follows t app (ps ∷ preds) [] = false
-other_app_follows t app (ps ∷ preds) (u ∷ later) = (has ps t && not (u.app == app)) || other_app_follows t app preds later
+other_app_follows t app (ps ∷ preds) (u ∷ later) = (contains ps t && not (u.app == app)) || other_app_follows t app preds later
 
 -- each of the first t positions that are this peer's to run is in the order
 abbrev pub all_own_in : Rules → Work → List ℕ → ℕ → Bool
 all_own_in rules w order zero = true
-all_own_in rules w order (suc t) = (not (is_agent rules w.me (txn_at w.txns t)) || has order t) && all_own_in rules w order t
+all_own_in rules w order (suc t) = (not (is_agent rules w.me (txn_at w.txns t)) || contains order t) && all_own_in rules w order t
 
 -- a cut stands behind the last position of this order: another application waits for it, or all that is this peer's ran
 abbrev pub is_cut : Rules → Work → List ℕ → Bool

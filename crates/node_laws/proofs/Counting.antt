@@ -4,7 +4,7 @@ use Rattle.std.specs.Option.{option_or}
 use Rattle.std.proofs.Common.{sym, ◌∙◌, ap, subst, inl, inr, arith, eqb, ⊎_elim, zero-add}
 use Rattle.std.proofs.lemmas.Bool.{eqb-true, or_parts, and_parts, or_cases, true≢false, false≢true}
 use Rattle.std.proofs.lemmas.Map.Made.{length-le_from_is_member}
-use Rattle.std.proofs.lemmas.List.Sums.{length-filter, sum_by-cons}
+use Rattle.std.proofs.lemmas.List.Sums.{length-filter}
 use Rattle.std.proofs.lemmas.List.{length-map}
 use Rattle.std.specs.Cmp.{nat_eq_equiv}
 use Rattle.std.specs.Set.{is_member}
@@ -12,16 +12,12 @@ use Rattle.std.proofs.lemmas.Bool.Decides.{nat_tests}
 use Rattle.std.proofs.lemmas.List.{map-append}
 use Rattle.std.proofs.lemmas.Option.{none-some, cond_some}
 use Rattle.node_defs.specs.Counting.{first_of_each, first_to_reach}
+use Rattle.node_defs.proofs.CountingLemmas.{reached_stays, count_by-cons}
 use Rattle.node_laws.specs.Growth.{Grew}
 
 abbrev pub Has : {A : Type 0} → A → List A → Type 0
 Has x [] = ⊥
 Has x (y ∷ ys) = (x ≡ y) ⊎ Has x ys
-
--- what has reached the count stays the first, whatever comes later
-pub reached_stays : {A : Type 0} (same : A → A → Bool) (q : ℕ) (xs new : List A) (x : A) → first_to_reach same q xs ≡ Some x → first_to_reach same q (new ++ xs) ≡ Some x
-reached_stays same q xs [] x h = h
-reached_stays same q xs (y ∷ new) x h = rw (reached_stays same q xs new x h) refl
 
 pub grew_first_of_each : {A : Type 0} (xs new : List (ℕ × A)) → Grew (first_of_each xs) (first_of_each (new ++ xs))
 grew_first_of_each xs [] = record { new = []; is = refl }
@@ -77,12 +73,8 @@ distinct_senders {A} (x ∷ xs) = one (list_any (λ y. y.0 == x.0) xs) refl (dis
     one true e h = h
     one false e h = (any_apart x.0 xs e, h)
 
--- a count looks at the first, and at the rest
-pub count_cons : {A : Type 0} (p : A → Bool) (y : A) (ys : List A) → count_by p (y ∷ ys) ≡ cond (p y) 1 0 + count_by p ys
-count_cons p y ys = sum_by-cons (λ x. cond (p x) 1 0) y ys
-
 count_more : {A : Type 0} (p : A → Bool) (y : A) (ys : List A) → count_by p ys ≤ count_by p (y ∷ ys)
-count_more p y ys = omega (arith, count_cons p y ys)
+count_more p y ys = omega (arith, count_by-cons p y ys)
 
 -- what reached the count stands so many times
 pub reached_count : {A : Type 0} (same : A → A → Bool) (q : ℕ) (xs : List A) (x : A) → first_to_reach same q xs ≡ Some x → q ≤ count_by (same x) xs
@@ -145,10 +137,10 @@ one_outside {A} p es F d l = one (list_all (λ e. is_member eqb F e.0) (filter p
 
 counted_through : {A : Type 0} (same : A → A → Bool) (fit : A → Bool) (b : A) (es : List (ℕ × A)) → count_by (same b) (filter fit (map (λ (e : ℕ × A). e.1) es)) ≡ count_by (λ e. fit e.1 && same b e.1) es
 counted_through same fit b [] = refl
-counted_through {A} same fit b (e ∷ es) = one (fit e.1) (counted_through same fit b es) ∙ sym (count_cons (λ (f : ℕ × A). fit f.1 && same b f.1) e es)
+counted_through {A} same fit b (e ∷ es) = one (fit e.1) (counted_through same fit b es) ∙ sym (count_by-cons (λ (f : ℕ × A). fit f.1 && same b f.1) e es)
   where
     one : (t : Bool) → count_by (same b) (filter fit (map (λ (f : ℕ × A). f.1) es)) ≡ count_by (λ f. fit f.1 && same b f.1) es → count_by (same b) (cond t (e.1 ∷ filter fit (map (λ (f : ℕ × A). f.1) es)) (filter fit (map (λ (f : ℕ × A). f.1) es))) ≡ cond (t && same b e.1) 1 0 + count_by (λ f. fit f.1 && same b f.1) es
-    one true h = count_cons (same b) e.1 (filter fit (map (λ (f : ℕ × A). f.1) es)) ∙ ap (λ n. cond (same b e.1) 1 0 + n) h
+    one true h = count_by-cons (same b) e.1 (filter fit (map (λ (f : ℕ × A). f.1) es)) ∙ ap (λ n. cond (same b e.1) 1 0 + n) h
     one false h = h ∙ sym (zero-add (count_by (λ (f : ℕ × A). fit f.1 && same b f.1) es))
 
 -- A content that q different senders carried was carried by one outside F, where F has fewer than q.

@@ -24,12 +24,12 @@ pub record IsFed (s : Setting) (w : World) : Type 0 where
   pub logs : AllByRecursion (IsOf w.pool) w.logs
   pub count : length w.logs ≡ peers_of s
 
-in_more : (pool more : List Letter) (x : Letter) → Has x pool → Has x (pool ++ more)
+pub in_more : (pool more : List Letter) (x : Letter) → Has x pool → Has x (pool ++ more)
 in_more [] more x h = absurd h
 in_more (y ∷ pool) more x (inl e) = inl e
 in_more (y ∷ pool) more x (inr h) = inr (in_more pool more x h)
 
-of_more : (pool more : List Letter) (logs : List Log) → AllByRecursion (IsOf pool) logs → AllByRecursion (IsOf (pool ++ more)) logs
+pub of_more : (pool more : List Letter) (logs : List Log) → AllByRecursion (IsOf pool) logs → AllByRecursion (IsOf (pool ++ more)) logs
 of_more pool more [] a = tt
 of_more pool more (L ∷ logs) a = (λ x h. in_more pool more x (a.0 x h), of_more pool more logs a.1)
 
@@ -58,7 +58,7 @@ given_fed s w p x h fed =
       count = length-set w.logs p L ∙ fed.count;
     }
 
-carried_more : (pool more : List Letter) → txns_carried (pool ++ more) ≡ txns_carried pool + txns_carried more
+pub carried_more : (pool more : List Letter) → txns_carried (pool ++ more) ≡ txns_carried pool + txns_carried more
 carried_more [] more = omega arith
 carried_more (x ∷ pool) more = let e = carried_more pool more in omega arith
 
@@ -69,7 +69,7 @@ commits_carry p (c ∷ cs) = let e = commits_carry p cs in omega arith
 -- WHAT THE PEERS SENT
 
 -- how many COMMITs the peers from number i on sent in all
-abbrev totals : Rules → ℕ → List Log → ℕ
+abbrev pub totals : Rules → ℕ → List Log → ℕ
 totals rules i [] = 0
 totals rules i (L ∷ logs) = total rules i L + totals rules (suc i) logs
 
@@ -87,7 +87,7 @@ totals_set rules i (M ∷ logs) (suc p) L h =
     let more = totals_set rules (suc i) logs p L (omega arith) in
     omega arith
 
-totals_fit : (rules : Rules) → IsLocal rules → (i : ℕ) (logs : List Log) (pool : List Letter) → AllByRecursion (IsOf pool) logs → totals rules i logs ≤ length logs * txns_carried pool
+pub totals_fit : (rules : Rules) → IsLocal rules → (i : ℕ) (logs : List Log) (pool : List Letter) → AllByRecursion (IsOf pool) logs → totals rules i logs ≤ length logs * txns_carried pool
 totals_fit rules l i [] pool a = omega arith
 totals_fit rules l i (L ∷ logs) pool a =
     let h = totals_fit rules l (suc i) logs pool a.1 in
@@ -105,10 +105,10 @@ pub record IsFrom (s : Setting) (w u : World) : Type 0 where
   pub carried : txns_carried u.pool ≡ txns_carried w.pool
   pub more : (x : Letter) → Has x w.pool → Has x u.pool
 
-from_itself : (s : Setting) (w : World) → IsFed s w → IsFrom s w w
+pub from_itself : (s : Setting) (w : World) → IsFed s w → IsFrom s w w
 from_itself s w fed = record { fed = fed; sent = refl; carried = refl; more = λ x h. h }
 
-given_from : (s : Setting) (w u : World) (p : ℕ) (x : Letter) → p < peers_of s → Has x u.pool → IsFrom s w u → IsFrom s w (given_to s u p x)
+pub given_from : (s : Setting) (w u : World) (p : ℕ) (x : Letter) → p < peers_of s → Has x u.pool → IsFrom s w u → IsFrom s w (given_to s u p x)
 given_from s w u p x l h from =
     let L = x ∷ get_or u.logs p [] in
     let more = map (said_by p) (sent s.rules p L) in
@@ -147,7 +147,7 @@ got_has [] m x e = absurd (none-some x e)
 got_has (y ∷ pool) zero x e = (inl (sym (same_Some y x e)), omega arith)
 got_has (y ∷ pool) (suc m) x e = let r = got_has pool m x e in (inr r.0, omega (arith, r.1))
 
-message_has : (w : World) (m : ℕ) (x : Letter) → message_at w m ≡ Some x → Has x w.pool × (m ≤ length w.pool)
+pub message_has : (w : World) (m : ℕ) (x : Letter) → message_at w m ≡ Some x → Has x w.pool × (m ≤ length w.pool)
 message_has w zero x e = absurd (none-some x e)
 message_has w (suc m) x e = let r = got_has w.pool m x e in (r.0, omega (arith, r.1))
 
@@ -194,7 +194,7 @@ length_logs : (n : ℕ) → length (replicate {A = Log} n []) ≡ n
 length_logs zero = refl
 length_logs (suc n) = ap suc (length_logs n)
 
-start_fed : (s : Setting) → IsFed s (start s)
+pub start_fed : (s : Setting) → IsFed s (start s)
 start_fed s = record { logs = empty_logs (first_pool s s.chain) (peers_of s); count = length_logs (peers_of s) }
 
 pub one_world : OneWorld

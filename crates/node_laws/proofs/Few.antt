@@ -7,7 +7,7 @@ use Rattle.std.proofs.lemmas.List.Sums.{length-filter}
 use Rattle.known_defs.specs.Known.{no_txn, txn_at}
 use Rattle.node_defs.specs.Position.{is_agent}
 use Rattle.node_defs.specs.Rules.{Rules, agents_behind, in_force, in_force_behind}
-use Rattle.node_defs.specs.Same.{has}
+use Rattle.oxii_defs.specs.State.{contains}
 use Rattle.node_defs.specs.Serial.{block_at, serial_ledger}
 use Rattle.node_defs.specs.Tame.{IsTame, first_blocks}
 use Rattle.node_defs.specs.World.{Setting, count_from, is_faulty, orderers_of}
@@ -44,35 +44,35 @@ or_true : (b : Bool) → (b || true) ≡ true
 or_true true = refl
 or_true false = refl
 
-kept : (p : ℕ → Bool) (xs : List ℕ) (x : ℕ) → has xs x ≡ true → p x ≡ true → is_member eqb (filter p xs) x ≡ true
+kept : (p : ℕ → Bool) (xs : List ℕ) (x : ℕ) → contains xs x ≡ true → p x ≡ true → is_member eqb (filter p xs) x ≡ true
 kept p [] x h k = absurd (false≢true h)
-kept p (y ∷ ys) x h k = one (p y) refl (or_cases (y == x) (has ys x) h) (λ i. kept p ys x i k)
+kept p (y ∷ ys) x h k = one (p y) refl (or_cases (x == y) (contains ys x) h) (λ i. kept p ys x i k)
   where
-    one : (b : Bool) → p y ≡ b → ((y == x) ≡ true) ⊎ (has ys x ≡ true) → (has ys x ≡ true → is_member eqb (filter p ys) x ≡ true) → is_member eqb (cond b (y ∷ filter p ys) (filter p ys)) x ≡ true
-    one true e (inl i) more = ap (λ b. b || is_member eqb (filter p ys) x) (eq-eqb x y (sym (eqb-true y x i)))
+    one : (b : Bool) → p y ≡ b → ((x == y) ≡ true) ⊎ (contains ys x ≡ true) → (contains ys x ≡ true → is_member eqb (filter p ys) x ≡ true) → is_member eqb (cond b (y ∷ filter p ys) (filter p ys)) x ≡ true
+    one true e (inl i) more = ap (λ b. b || is_member eqb (filter p ys) x) (eq-eqb x y (eqb-true x y i))
     one true e (inr i) more = ap (λ b. eqb x y || b) (more i) ∙ or_true (eqb x y)
-    one false e (inl i) more = absurd (false≢true (sym e ∙ (ap p (eqb-true y x i) ∙ k)))
+    one false e (inl i) more = absurd (false≢true (sym e ∙ (ap p (sym (eqb-true x y i)) ∙ k)))
     one false e (inr i) more = more i
 
 -- what isn't among those of a list that pass a test, but is in the list, doesn't pass
-pub fails : (p : ℕ → Bool) (xs : List ℕ) (x : ℕ) → has xs x ≡ true → is_member eqb (filter p xs) x ≡ false → p x ≡ false
+pub fails : (p : ℕ → Bool) (xs : List ℕ) (x : ℕ) → contains xs x ≡ true → is_member eqb (filter p xs) x ≡ false → p x ≡ false
 fails p xs x h out = one (p x) refl
   where
     one : (b : Bool) → p x ≡ b → p x ≡ false
     one false e = e
     one true e = absurd (false≢true (sym out ∙ kept p xs x h e))
 
-pub counted : (i n x : ℕ) → i ≤ x → x < i + n → has (count_from i n) x ≡ true
+pub counted : (i n x : ℕ) → i ≤ x → x < i + n → contains (count_from i n) x ≡ true
 counted i zero x l h = absurd (omega arith)
-counted i (suc n) x l h = one (i == x) refl (λ a b. counted (suc i) n x a b)
+counted i (suc n) x l h = one (x == i) refl (λ a b. counted (suc i) n x a b)
   where
-    one : (b : Bool) → (i == x) ≡ b → (suc i ≤ x → x < suc i + n → has (count_from (suc i) n) x ≡ true) → (b || has (count_from (suc i) n) x) ≡ true
+    one : (b : Bool) → (x == i) ≡ b → (suc i ≤ x → x < suc i + n → contains (count_from (suc i) n) x ≡ true) → (b || contains (count_from (suc i) n) x) ≡ true
     one true e more = refl
     one false e more = more (later (cases_lt i x)) (omega arith)
       where
         later : (i < x) ⊎ (x ≤ i) → suc i ≤ x
         later (inl k) = omega arith
-        later (inr k) = let q : i ≡ x = omega arith in absurd (false≢true (sym e ∙ eq-eqb i x q))
+        later (inr k) = let q : x ≡ i = omega arith in absurd (false≢true (sym e ∙ eq-eqb x i q))
 
 same_blocks : (rules : Rules) (chain : List Block) (m : ℕ) → map (λ (e : Entry). e.block) (serial_ledger rules chain m) ≡ first_blocks chain m
 same_blocks rules chain zero = refl

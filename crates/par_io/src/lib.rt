@@ -22,6 +22,3 @@ pub use sure::{SureSink, SureSource};
 /// A read or a write that failed.
 #[derive(Clone, Copy, Debug, PartialEq, Eq)]
 pub struct Failed;
-
-#[cfg(test)]
-mod tests;

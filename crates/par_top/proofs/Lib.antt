@@ -1,6 +1,9 @@
 pub mod AgreedLemmas
-pub mod FoldLemmas
+pub mod LawfulBlocks
+pub mod WorldTextLemmas
+pub mod WorldLemmas
 pub mod TextLemmas
 pub mod WordLemmas
 pub mod DocumentLemmas
 pub mod Complete
+pub mod SerialHeadlines

@@ -1,18 +1,9 @@
 -- The commands, and what each takes and prints.
-use Rattle.std.specs.Prelude.{◌≡◌, ℕ, ◌*◌, List, [], ◌∷◌, ◌++◌, codes, length}
-use Rattle.std.specs.List.{All, flat_map}
+use Rattle.std.specs.Prelude.{◌≡◌, ℕ, List, [], ◌∷◌, codes}
 use Rattle.txn_types.specs.declared.txn.Kind.TheVariants.{Full}
-use Rattle.txn_types.specs.declared.block.Body.{Body}
-use Rattle.txn_types.specs.declared.block.Block.{Block}
-use Rattle.txn_types.specs.declared.stream.Item.{Item}
-use Rattle.txn_types.specs.declared.stream.Item.TheVariants as item
-use Rattle.txn_types.specs.declared.event.Event.TheVariants as event
-use Rattle.oxii_defs.specs.Chain.{chain}
-use Rattle.oxii_defs.specs.Lines.{blocks_line, tail_lines}
-use Rattle.oxii_defs.specs.SerialRuns.{IsSerialPart}
-use Rattle.node_defs.specs.Cutting.{AreAgreed, rejected_from}
-use Rattle.node_defs.specs.Text.{rejected_line}
+use Rattle.node_defs.specs.Text.{IsTextOf}
 use Rattle.node_defs.specs.GraphText.{IsGraphTextOf}
+use Rattle.text_laws.specs.SerialText as serial
 use Rattle.txn_core.specs.States.{state_of}
 use Rattle.input_doc.specs.Inputs.{Input}
 use Rattle.par_top.specs.declared.command.Command.{Command}
@@ -32,44 +23,16 @@ IsCommand words = (command : Command) × Says words command
 
 -- WHAT A COMMAND TAKES
 
--- an item is no configuration
-abbrev pub IsNoConfig : Item → Type 0
-IsNoConfig (item.Ask q) = Unit {0}
-IsNoConfig item.Mark = Unit {0}
-IsNoConfig (item.Config c) = ⊥
-
--- so far: blocks of kind full, one orderer, one peer and one application, nobody faulty, one `all`, and no configuration
-pub record IsFirstForm (input : Input) : Type 0 where
-  pub kind : input.table.kind ≡ Full
-  pub orderers : length input.table.orderers ≡ 1
-  pub peers : length input.table.peers ≡ 1
-  pub apps : length input.table.apps ≡ 1
-  pub faulty : input.faulty ≡ []
-  pub schedule : input.schedule ≡ event.All ∷ []
-  pub configs : All IsNoConfig input.items
-
--- a run takes the first form so far, and `graph` each document
+-- a run takes documents whose graphs are of kind full so far, and `graph` each document
 abbrev pub Takes : Command → Input → Type 0
-Takes Run input = IsFirstForm input
+Takes Run input = input.table.kind ≡ Full
 Takes Graph input = Unit {0}
 
 -- WHAT IT PRINTS
 
--- the rejected requests, the count of blocks, the part of the one peer, and the messages: the orderer sends each block, and the peer a result for each
-abbrev pub lines_of : Input → List Block → List ℕ → List ℕ
-lines_of input blocks part =
-    flat_map rejected_line (rejected_from input.table 0 input.items)
-    ++ blocks_line (length blocks)
-    ++ part
-    ++ tail_lines (2 * length blocks) 0
-
--- what a run of a document of the first form prints: the one peer completes the chain of its agreed blocks, run one after another by the operations' meaning
-pub record IsRunText (input : Input) (lines : List ℕ) : Type 0 where
-  pub bodies : List Body
-  pub agreed : AreAgreed input.table input.limits input.items bodies
-  pub part : List ℕ
-  pub run : IsSerialPart input.table (state_of input.genesis) 0 (chain input.table bodies) part
-  pub are : lines ≡ lines_of input (chain input.table bodies) part
+-- what `run` prints: the text of the world of its events, over the chain of its agreed blocks
+abbrev pub IsRunText : Input → List ℕ → Type 0
+IsRunText input lines = IsTextOf input.table (state_of input.genesis) input.items input.limits input.faulty input.schedule lines
 
 -- what `graph` prints
 abbrev pub IsGraphText : Input → List ℕ → Type 0
@@ -79,3 +42,13 @@ IsGraphText input lines = IsGraphTextOf input.table input.items input.limits lin
 abbrev pub IsTextFor : Command → Input → List ℕ → Type 0
 IsTextFor Run input lines = IsRunText input lines
 IsTextFor Graph input lines = IsGraphText input lines
+
+-- TAME DOCUMENTS
+
+-- few enough nodes are named faulty, at each block that is agreed
+abbrev pub IsTame : Input → Type 0
+IsTame input = serial.IsTameInput input.table (state_of input.genesis) input.items input.limits input.faulty
+
+-- the lines of each peer that isn't named faulty are those of the serial run of the first blocks of the chain, as many as it completed
+abbrev pub IsSerialText : Input → List ℕ → Type 0
+IsSerialText input lines = serial.HasSerialText input.table (state_of input.genesis) input.items input.limits input.faulty input.schedule lines

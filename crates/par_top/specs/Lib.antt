@@ -2,6 +2,7 @@ pub use Rattle.oxii_defs.specs.Lines
 pub use Rattle.node_defs.specs.Cutting
 pub use Rattle.node_defs.specs.Text
 pub use Rattle.node_defs.specs.GraphText
+pub use Rattle.text_laws.specs.SerialText
 pub use Rattle.txn_core.specs.States
 pub use Rattle.input_doc.specs.Inputs
 pub use Rattle.input_doc.specs.Held

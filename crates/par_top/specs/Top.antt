@@ -9,12 +9,12 @@ use Rattle.doc_forms.specs.declared.fault.DocFault.{DocFault}
 use Rattle.doc_forms.specs.declared.fault.DocFault.TheVariants as fault
 use Rattle.doc_forms.specs.Faults.{Fault}
 use Rattle.doc_forms.specs.Check.{Fails}
-use Rattle.input_doc.specs.Inputs.{Input}
+use Rattle.input_doc.specs.Inputs.{Input, IsLawfulInput}
 use Rattle.input_doc.specs.Means.{Means}
 use Rattle.par_top.specs.declared.command.Command.{Command}
 use Rattle.par_top.specs.declared.status.Status.{Status}
 use Rattle.par_top.specs.declared.status.Status.TheVariants as status
-use Rattle.par_top.specs.Commands.{Says, Takes, IsTextFor}
+use Rattle.par_top.specs.Commands.{Says, Takes, IsTextFor, IsTame, IsSerialText}
 use Rattle.par_top.specs.Faults.{HasFaultFor}
 
 -- a document has at most 4 MiB
@@ -30,12 +30,13 @@ pub record IsReadFault (faults_old faults_new : ℕ) (rest_old rest_new : Option
 abbrev pub refusal : Fault → Result Input Fault
 refusal fault = Err fault
 
--- the source was read to its end, and what it had means an input that the command takes, with this text
+-- the source was read to its end, and what it had means a lawful input that the command takes, with this text
 pub record HasRead (command : Command) (rest_old rest_new : Option (List ℕ)) (lines : List ℕ) : Type 0 where
   pub bytes : List ℕ
   pub input : Input
   pub read : ReadWhole rest_old rest_new document_limit bytes
   pub means : Means bytes input
+  pub lawful : IsLawfulInput input
   pub taken : Takes command input
   pub text : IsTextFor command input lines
 
@@ -45,7 +46,17 @@ pub record IsHeadline (command : Command) (rest_old rest_new written_old written
   pub read : HasRead command rest_old rest_new lines
   pub written : Appends written_old written_new lines
 
--- the same, and a part from the front of its text was written
+-- the source was read to its end, what it had means an input, and what was written is its text; where that is tame, each peer that isn't faulty printed the serial run of the blocks that it completed, whatever the schedule
+pub record IsSerialHeadline (rest_old rest_new written_old written_new : Option (List ℕ)) : Type 0 where
+  pub bytes : List ℕ
+  pub input : Input
+  pub lines : List ℕ
+  pub read : ReadWhole rest_old rest_new document_limit bytes
+  pub means : Means bytes input
+  pub written : Appends written_old written_new lines
+  pub serial : IsTame input → IsSerialText input lines
+
+-- the source was read to its end, and what it had means an input that the command takes, and a part from the front of its text was written
 pub record IsWrittenPart (command : Command) (rest_old rest_new written_old written_new : Option (List ℕ)) : Type 0 where
   pub lines : List ℕ
   pub read : HasRead command rest_old rest_new lines

@@ -4,7 +4,7 @@ ghost use Rattle.std.specs.Prelude.{◌≡◌, ◌≤◌, length, IfOk};
 ghost use Rattle.std.specs.List.{All};
 ghost use Rattle.oxii_defs.specs.Lawful.{IsLawfulTable};
 ghost use Rattle.oxii_defs.specs.Chain.{IsLawfulBlock};
-ghost use Rattle.node_defs.specs.Admission.{IsLawfulItem};
+ghost use Rattle.node_defs.specs.Admission.{IsLawfulItem, pieces_of};
 ghost use Rattle.node_defs.specs.Cutting.{AreLawfulLimits, rejected_from};
 ghost use Rattle.txn_core.specs.MeantTable.{table_of};
 ghost use Rattle.par_top.specs.AgreedBlocks.{AreAgreedBlocks};
@@ -13,17 +13,18 @@ use block_cutter::cut;
 use hash_ledger::chain;
 use std::alloc::Global;
 use txn_core::Table;
-use txn_types::{Blocks, CutLimits, Item, OutOfMemory, Rejects};
+use txn_types::{Admitted, Blocks, CutLimits, Item, OutOfMemory, Rejects};
 
-/// What orderers agree on: the rejected requests, and the blocks of the chain.
+/// What orderers agree on: the rejected requests, what each item of the stream carries, and the blocks of the chain.
 #[derive(Drop)]
 pub struct Agreed {
     pub rejected: Rejects,
+    pub admitted: Admitted,
     pub blocks: Blocks,
 }
 
 /// What orderers make of a stream.
-#[tactic(auto, using(crate::proofs::AgreedLemmas::agreed_blocks, crate::proofs::FoldLemmas::chain_lawful))]
+#[tactic(auto, using(crate::proofs::AgreedLemmas::agreed_blocks, crate::proofs::LawfulBlocks::chain_lawful))]
 pub fn agree(
     alloc: Global,
     table: &Table,
@@ -35,6 +36,7 @@ pub fn agree(
     requires items { All (IsLawfulItem (table_of table.now)) items.now }
     requires limits { AreLawfulLimits limits.now }
     ensures rejected { IfOk result (λ agreed. agreed.rejected ≡ rejected_from (table_of table.now) 0 items.now) }
+    ensures admitted { IfOk result (λ agreed. agreed.admitted ≡ pieces_of (table_of table.now) items.now) }
     ensures blocks { IfOk result (λ agreed. AreAgreedBlocks (table_of table.now) limits.now items.now agreed.blocks) }
     ensures lawful { IfOk result (λ agreed. All (IsLawfulBlock (table_of table.now)) agreed.blocks) }
 {
@@ -42,6 +44,7 @@ pub fn agree(
     let blocks = chain(alloc, table, &cut.bodies)?;
     Ok(Agreed {
         rejected: cut.rejected,
+        admitted: cut.admitted,
         blocks,
     })
 }

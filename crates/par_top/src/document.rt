@@ -9,15 +9,15 @@ ghost use Rattle.par_top.specs.Faults.{RefusesFor};
 
 use crate::DocFault;
 use crate::command::Command;
-use crate::first_form::is_first_form;
 use input_doc::{Input, read_input};
 use std::alloc::Global;
+use txn_types::Kind;
 
 fn takes(command: Command, input: &Input) -> bool
     ensures { IsTrue result ↔ Takes command (input_of input.now) }
 {
     match command {
-        Command::Run => is_first_form(input),
+        Command::Run => input.table.kind == Kind::Full,
         Command::Graph => true,
     }
 }

@@ -13,7 +13,7 @@ use std::alloc::Global;
 use txn_core::Table;
 use txn_types::{Block, OutOfMemory, Text};
 
-#[tactic(auto, using(crate::proofs::FoldLemmas::txns_few))]
+#[tactic(auto, using(crate::proofs::LawfulBlocks::txns_few))]
 fn push_graphs(
     alloc: Global,
     text: &mut Text,

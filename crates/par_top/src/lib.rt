@@ -4,16 +4,16 @@
 mod agreed;
 mod command;
 mod document;
-mod first_form;
-mod fold;
 mod graphs;
 mod paths;
 mod status;
 mod text;
 mod top;
+mod world_text;
 
 pub use input_doc::{DocFault, Path, Step, Which};
 pub use status::{Status, status_code, status_line};
+pub use steal_pool::{FreeGate, Gate};
 pub use text::graph_report;
 pub use top::run;
-pub use txn_core::{FreeGate, Gate};
+pub use world_text::report;

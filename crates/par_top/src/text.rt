@@ -1,34 +1,71 @@
 //! The printed text of a document.
 
-ghost use Rattle.std.specs.Prelude.{◌≡◌, ◌++◌, IfOk};
+ghost use Rattle.std.specs.Prelude.{◌≡◌, IfOk};
+ghost use Rattle.std.specs.List.{All};
+ghost use Rattle.oxii_defs.specs.Chain.{IsLawfulBlock};
+ghost use Rattle.node_defs.specs.Admission.{pieces_of};
+ghost use Rattle.txn_core.specs.MeantTable.{table_of};
+ghost use Rattle.txn_core.specs.States.{state_of};
+ghost use Rattle.world_laws.specs.Worlds.{IsWorldOf, setting_with};
+ghost use Rattle.par_top.specs.AgreedBlocks.{AreAgreedBlocks};
 ghost use Rattle.input_doc.specs.Inputs.{IsLawfulInput};
 ghost use Rattle.input_doc.specs.Held.{input_of};
 ghost use Rattle.par_top.specs.Commands.{IsRunText, IsGraphText, IsTextFor};
 
 use crate::Gate;
-use crate::agreed::agree;
+use crate::agreed::{Agreed, agree};
 use crate::command::Command;
-use crate::fold::push_peer;
 use crate::graphs::push_graph_text;
+use crate::world_text::report;
 use input_doc::Input;
-use report_text::{head, push_tail};
+use schedule_run::World;
 use std::alloc::Global;
-use txn_types::{Copies, OutOfMemory, Text};
+use std::thread::Threads;
+use txn_types::{OutOfMemory, Text};
 
-// The agreed blocks are run, and the first peer's part is printed.
-fn run_text<G: Gate>(alloc: Global, input: &Input, gate: &G) -> Result<Text, OutOfMemory>
-    requires { IsLawfulInput (input_of input.now) }
-    ensures { IfOk result (IsRunText (input_of input.now)) }
+/// How many workers a peer has. No option says otherwise yet, and each peer runs its blocks on the caller's thread.
+const WORKERS: u8 = 4;
+
+// The world of the schedule over the agreed blocks.
+fn play<'t, R: Threads + Sync, G: Gate>(
+    rt: &R,
+    alloc: Global,
+    input: &'t Input,
+    agreed: &Agreed,
+    gate: &G,
+) -> Result<World<'t>, OutOfMemory>
+    requires lawful { IsLawfulInput (input_of input.now) }
+    requires agreed { AreAgreedBlocks (table_of input.now.table) input.now.limits input.now.items agreed.now.blocks }
+    requires blocks { All (IsLawfulBlock (table_of input.now.table)) agreed.now.blocks }
+    requires admitted { agreed.now.admitted ≡ pieces_of (table_of input.now.table) input.now.items }
+    ensures { IfOk result (λ r. IsWorldOf r (state_of input.now.genesis) (setting_with (table_of input.now.table) (state_of input.now.genesis) agreed.now.blocks agreed.now.admitted input.now.faulty) input.now.schedule) }
 {
-    let table = &input.table;
-    let agreed = agree(alloc, table, input.items.as_slice(), &input.limits)?;
-    let mut values = input.genesis.copy(alloc)?;
-    let blocks = agreed.blocks.as_slice();
-    let count = blocks.len() as u64;
-    let mut text = Text::new(alloc);
-    head(alloc, &mut text, &agreed.rejected, count)?;
-    push_peer(alloc, &mut text, table, 0, blocks, &mut values, gate)?;
-    push_tail(&mut text, 2 * count, 0)?;
+    let world = World::new(
+        alloc,
+        &input.table,
+        &input.genesis,
+        &agreed.blocks,
+        &agreed.admitted,
+        &input.faulty,
+    )?;
+    let world = world.run(rt, alloc, input.schedule.as_slice(), WORKERS, gate)?;
+    Ok(world)
+}
+
+// The text of the world of the schedule.
+fn run_text<R: Threads + Sync, G: Gate>(
+    rt: &R,
+    alloc: Global,
+    input: &Input,
+    gate: &G,
+) -> Result<Text, OutOfMemory>
+    requires lawful { IsLawfulInput (input_of input.now) }
+    ensures text { IfOk result (IsRunText (input_of input.now)) }
+{
+    let agreed = agree(alloc, &input.table, input.items.as_slice(), &input.limits)?;
+    let world = play(rt, alloc, input, &agreed, gate)?;
+    let count = agreed.blocks.len() as u64;
+    let text = report(alloc, &world, &agreed.rejected, count, false)?;
     Ok(text)
 }
 
@@ -45,17 +82,18 @@ pub fn graph_report(alloc: Global, input: &Input) -> Result<Text, OutOfMemory>
 }
 
 /// What a command prints of a document that it takes.
-pub fn text_for<G: Gate>(
+pub fn text_for<R: Threads + Sync, G: Gate>(
+    rt: &R,
     alloc: Global,
     command: Command,
     input: &Input,
     gate: &G,
 ) -> Result<Text, OutOfMemory>
-    requires { IsLawfulInput (input_of input.now) }
-    ensures { IfOk result (IsTextFor command (input_of input.now)) }
+    requires lawful { IsLawfulInput (input_of input.now) }
+    ensures text { IfOk result (IsTextFor command (input_of input.now)) }
 {
     match command {
-        Command::Run => run_text(alloc, input, gate),
+        Command::Run => run_text(rt, alloc, input, gate),
         Command::Graph => graph_report(alloc, input),
     }
 }

@@ -5,9 +5,10 @@ ghost use Rattle.par_io.specs.Causes.{Rose};
 ghost use Rattle.input_doc.specs.Inputs.{Input};
 ghost use Rattle.doc_forms.specs.Faults.{Fault};
 ghost use Rattle.input_doc.specs.Means.{Means, HasFault};
+ghost use Rattle.par_top.specs.declared.command.Command.TheVariants.{Run};
 ghost use Rattle.par_top.specs.Commands.{Says, IsCommand, Takes};
 ghost use Rattle.par_top.specs.Statuses.{CanSay};
-ghost use Rattle.par_top.specs.Top.{OfCommand, IsHeadline, IsReadFault, IsWrittenPart, IsRefusal, IsRefusedFor, document_limit, too_long};
+ghost use Rattle.par_top.specs.Top.{OfCommand, IsHeadline, IsReadFault, IsSerialHeadline, IsWrittenPart, IsRefusal, IsRefusedFor, document_limit, too_long};
 
 use crate::command::{Command, command_of};
 use crate::document::document_for;
@@ -20,7 +21,8 @@ use std::thread::Threads;
 /// The greatest length of a document in bytes.
 const DOCUMENT_LIMIT: usize = 4_194_304;
 
-fn run_command<S: Source, K: Sink, G: Gate>(
+fn run_command<R: Threads + Sync, S: Source, K: Sink, G: Gate>(
+    rt: &R,
     alloc: Global,
     command: Command,
     source: &mut S,
@@ -52,7 +54,7 @@ fn run_command<S: Source, K: Sink, G: Gate>(
         Err(DocFault::OutOfMemory) => return Status::OutOfMemory,
         Err(fault) => return Status::Refused(fault),
     };
-    let Ok(text) = text_for(alloc, command, &input, gate) else {
+    let Ok(text) = text_for(rt, alloc, command, &input, gate) else {
         return Status::OutOfMemory;
     };
     if write_all(sink, text.as_slice()).is_err() {
@@ -61,16 +63,19 @@ fn run_command<S: Source, K: Sink, G: Gate>(
     Status::Ok
 }
 
-/// Does what the words say, over a document that it reads from the source: `run` runs it and writes what its peer comes to, `graph` writes its agreed blocks with their graphs. No thread is started yet.
+/// Does what the words say, over a document that it reads from the source: `run` plays its schedule and writes what each peer that isn't faulty comes to, `graph` writes its agreed blocks with their graphs. No thread is started yet.
 pub fn run<R: Threads + Sync, S: Source, K: Sink, G: Gate>(
-    _rt: &R,
+    rt: &R,
     alloc: Global,
     words: &[String],
     source: &mut S,
     sink: &mut K,
     gate: &G,
 ) -> Status
-    // The first headline: the whole text of a document that was read to its end.
+    // The headline: where few enough nodes are faulty, each peer that isn't printed exactly the blocks that it holds quorums for, with the outcomes of running their transactions one after another, whatever the schedule loses, repeats or reorders.
+    ensures serial { result ≡ Status.Ok → Says (map string_bytes words.now) Run → IsSerialHeadline (S.rest source.old) (S.rest source.new) (K.written sink.old) (K.written sink.new) }
+
+    // The whole text of a document that was read to its end, whoever is faulty.
     ensures ok { result ≡ Status.Ok → OfCommand (map string_bytes words.now) (λ command. IsHeadline command (S.rest source.old) (S.rest source.new) (K.written sink.old) (K.written sink.new)) }
 
     // Usage exactly where the words are no command; then nothing is touched.
@@ -106,7 +111,7 @@ pub fn run<R: Threads + Sync, S: Source, K: Sink, G: Gate>(
         → (result ≡ Status.Refused too_long) ⊎ (result ≡ Status.OutOfMemory) }
 {
     match command_of(words) {
-        Some(command) => run_command(alloc, command, source, sink, gate),
+        Some(command) => run_command(rt, alloc, command, source, sink, gate),
         None => Status::Usage,
     }
 }

@@ -1,11 +1,3 @@
-pub mod Openings
-pub mod Composing
-pub mod Finishing
-pub mod Judgements
-pub mod Relating
-pub mod Tracing
-pub mod NoteBridges
-pub mod Turning
-pub mod Hearing
+pub mod Taking
 pub mod Starting
 pub mod CountLemmas

@@ -19,8 +19,8 @@ use Rattle.txn_core.specs.declared.table.Table.{Table}
 use Rattle.peer_parts.specs.declared.force.Seats.{Seats}
 use Rattle.peer_laws.specs.Turns.{votes_with}
 use Rattle.peer_parts.specs.InForce.{force_in, seats_of}
-use Rattle.peer_core.specs.Peers.{KeptPeer}
-use Rattle.peer_core.specs.Relation.{StandsFor}
+use Rattle.peer_turns.specs.Peers.{KeptPeer}
+use Rattle.peer_turns.specs.Relation.{StandsFor}
 
 none_at : (rules : Rules) (me j : ℕ) → accepted_at rules me j [] ≡ None
 none_at rules me j = one (length (completed rules me j []) == j)

@@ -3,9 +3,8 @@ pub use Rattle.hash_ledger.specs.Ledgers
 pub use Rattle.hash_ledger.specs.Halts
 pub use Rattle.peer_laws.specs.Runs
 pub use Rattle.peer_laws.specs.Notes
-pub mod Openings
-pub mod Completing
-pub mod Peers
-pub mod Traces
-pub mod Answering
-pub mod Relation
+pub use Rattle.peer_work.specs.Openings
+pub use Rattle.peer_work.specs.Completing
+pub use Rattle.peer_turns.specs.Peers
+pub use Rattle.peer_turns.specs.Traces
+pub use Rattle.peer_turns.specs.Relation

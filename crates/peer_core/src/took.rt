@@ -1,18 +1,6 @@
-ghost use Rattle.std.specs.Prelude.{◌≡◌, ◌++◌, OnOk};
-ghost use Rattle.peer_core.specs.Traces.{spans_listed};
-
-use board_work::Spans;
 use peer_laws::Note;
-use txn_types::{Commits, GrowingList, OutOfMemory};
-
-/// The spans of the transactions of one block that ran in one delivery.
-#[derive(Drop)]
-pub struct BlockSpans {
-    pub n: u64,
-    pub spans: Spans,
-}
-
-pub type BlockSpansList = GrowingList<BlockSpans>;
+use peer_turns::BlockSpansList;
+use txn_types::Commits;
 
 /// What one delivery came to: its note, the COMMITs that are sent, and for each block of which transactions ran their spans, in block order.
 #[derive(Drop)]
@@ -20,14 +8,4 @@ pub struct Took {
     pub note: Note,
     pub sent: Commits,
     pub spans: BlockSpansList,
-}
-
-/// Lists the spans of block `n`, if there are any.
-pub fn list(all: &mut BlockSpansList, n: u64, spans: Spans) -> Result<(), OutOfMemory>
-    ensures { OnOk result (all.new ≡ all.old ++ spans_listed n spans) }
-{
-    if spans.as_slice().is_empty() {
-        return Ok(());
-    }
-    all.push(BlockSpans { n, spans })
 }

@@ -1,8 +1,7 @@
 -- The steps of one turn, against the longer log
 use Rattle.std.specs.Prelude.{ℕ, ◌==◌, ◌<◌, ◌≤◌, ◌≡◌, Bool, true, false, ◌&&◌, ◌||◌, not, cond, List, [], ◌∷◌, ◌++◌, map, reverse, replicate, length, get_or, Option, Some, None, is_some, unwrap_or, nat_lt, zero, suc, refl}
-use Rattle.std.specs.List.{AllByRecursion, list_any}
+use Rattle.std.specs.List.{AllByRecursion}
 use Rattle.std.proofs.Common.{sym, ◌∙◌, ap, arith, ⊎_elim}
-use Rattle.std.proofs.lemmas.List.Folds.{list_any-append}
 use Rattle.std.proofs.lemmas.Bool.{false≢true, cases_lt, eqb-true, eq-eqb, lt-ltb, le-ltb}
 use Rattle.std.proofs.lemmas.Option.{same_Some}
 use Rattle.std.proofs.lemmas.List.{get_or_past}
@@ -11,6 +10,7 @@ use Rattle.node_laws.proofs.Settle.{beliefs_at, front, length_beliefs}
 use Rattle.node_laws.proofs.AgreeSent.{order_ran, keep_at}
 use Rattle.peer_laws.proofs.Unopened.{said_is, no_order, length_standings, nothing_believed, unrun}
 use Rattle.peer_laws.proofs.Turn.{ran_is, did_run_is}
+use Rattle.oxii_defs.specs.State.{contains}
 use Rattle.known_defs.specs.Known.{no_outcome, txn_at}
 use Rattle.node_defs.specs.Ledger.{all_standings, completed, ledger_state}
 use Rattle.node_defs.specs.Log.{Letter, Log}
@@ -147,15 +147,19 @@ held_keeps rules l w op e L =
 
 -- WHAT RAN
 
+pub contains-append : (xs ys : List ℕ) (t : ℕ) → contains (xs ++ ys) t ≡ (contains xs t || contains ys t)
+contains-append [] ys t = refl
+contains-append (x ∷ xs) ys t = elim (t == x) as (λ b. (b || contains (xs ++ ys) t) ≡ ((b || contains xs t) || contains ys t)) [ true ↦ refl | false ↦ contains-append xs ys t ]
+
 -- among the first n positions
-in_newly : (rules : Rules) (w : Work) (e : Letter) (L : Log) (n t : ℕ) → list_any (λ u. u == t) (newly_ran rules w e L n) ≡ (nat_lt t n && (did_run rules w t (e ∷ L) && not (did_run rules w t L)))
+in_newly : (rules : Rules) (w : Work) (e : Letter) (L : Log) (n t : ℕ) → contains (newly_ran rules w e L n) t ≡ (nat_lt t n && (did_run rules w t (e ∷ L) && not (did_run rules w t L)))
 in_newly rules w e L zero t = rw (le-ltb t 0 (omega arith)) refl
 in_newly rules w e L (suc n) t = one (did_run rules w n (e ∷ L) && not (did_run rules w n L)) refl (in_newly rules w e L n t)
   where
     B : ℕ → Bool
     B u = did_run rules w u (e ∷ L) && not (did_run rules w u L)
 
-    rest : list_any (λ u. u == t) (newly_ran rules w e L n) ≡ (nat_lt t n && B t) → (n ≡ t → B t ≡ false) → list_any (λ u. u == t) (newly_ran rules w e L n) ≡ (nat_lt t (suc n) && B t)
+    rest : contains (newly_ran rules w e L n) t ≡ (nat_lt t n && B t) → (n ≡ t → B t ≡ false) → contains (newly_ran rules w e L n) t ≡ (nat_lt t (suc n) && B t)
     rest ih h = ⊎_elim (λ lt. ih ∙ ap (λ b. b && B t) (lt-ltb t n lt ∙ sym (lt-ltb t (suc n) (omega arith))))
         (λ ge. ih ∙ (ap (λ b. b && B t) (le-ltb t n ge) ∙ ⊎_elim (λ lt. let q : n ≡ t = omega arith in sym (rw (h q) (both (nat_lt t (suc n))))) (λ ge2. sym (ap (λ b. b && B t) (le-ltb t (suc n) ge2))) (cases_lt t (suc n)))) (cases_lt t n)
       where
@@ -163,20 +167,20 @@ in_newly rules w e L (suc n) t = one (did_run rules w n (e ∷ L) && not (did_ru
         both true = refl
         both false = refl
 
-    one : (b : Bool) → B n ≡ b → list_any (λ u. u == t) (newly_ran rules w e L n) ≡ (nat_lt t n && B t) → list_any (λ u. u == t) (cond b (n ∷ newly_ran rules w e L n) (newly_ran rules w e L n)) ≡ (nat_lt t (suc n) && B t)
+    one : (b : Bool) → B n ≡ b → contains (newly_ran rules w e L n) t ≡ (nat_lt t n && B t) → contains (cond b (n ∷ newly_ran rules w e L n) (newly_ran rules w e L n)) t ≡ (nat_lt t (suc n) && B t)
     one false q ih = rest ih (λ s. ap B (sym s) ∙ q)
-    one true q ih = two (n == t) refl
+    one true q ih = two (t == n) refl
       where
-        two : (c : Bool) → (n == t) ≡ c → (c || list_any (λ u. u == t) (newly_ran rules w e L n)) ≡ (nat_lt t (suc n) && B t)
-        two true s = let k : n ≡ t = eqb-true n t s in sym (rw (lt-ltb t (suc n) (omega (arith, k))) (ap B (sym k) ∙ q))
-        two false s = rest ih (λ k. absurd (false≢true (sym s ∙ eq-eqb n t k)))
+        two : (c : Bool) → (t == n) ≡ c → (c || contains (newly_ran rules w e L n) t) ≡ (nat_lt t (suc n) && B t)
+        two true s = let k : n ≡ t = sym (eqb-true t n s) in sym (rw (lt-ltb t (suc n) (omega (arith, k))) (ap B (sym k) ∙ q))
+        two false s = rest ih (λ k. absurd (false≢true (sym s ∙ eq-eqb t n (sym k))))
 
 -- the run order has each position that ran
-pub in_order : (rules : Rules) → IsLocal rules → (w : Work) → StaysOpen w → w.opens [] ≡ false → (t : ℕ) → t < length w.txns → (L : Log) → list_any (λ u. u == t) (run_order rules w L) ≡ did_run rules w t L
+pub in_order : (rules : Rules) → IsLocal rules → (w : Work) → StaysOpen w → w.opens [] ≡ false → (t : ℕ) → t < length w.txns → (L : Log) → contains (run_order rules w L) t ≡ did_run rules w t L
 in_order rules l w op shut t lt [] = sym (unrun rules w [] shut t)
 in_order rules l w op shut t lt (e ∷ L) =
-    list_any-append (λ u. u == t) (newly_ran rules w e L (length w.txns)) (run_order rules w L)
-    ∙ (ap (λ b. b || list_any (λ u. u == t) (run_order rules w L)) (in_newly rules w e L (length w.txns) t ∙ ap (λ b. b && (did_run rules w t (e ∷ L) && not (did_run rules w t L))) (lt-ltb t (length w.txns) lt))
+    contains-append (newly_ran rules w e L (length w.txns)) (run_order rules w L) t
+    ∙ (ap (λ b. b || contains (run_order rules w L) t) (in_newly rules w e L (length w.txns) t ∙ ap (λ b. b && (did_run rules w t (e ∷ L) && not (did_run rules w t L))) (lt-ltb t (length w.txns) lt))
     ∙ (ap (λ b. (did_run rules w t (e ∷ L) && not (did_run rules w t L)) || b) (in_order rules l w op shut t lt L)
     ∙ one (did_run rules w t (e ∷ L)) (did_run rules w t L) (keep_at (all_standings rules w L) (all_standings rules w (e ∷ L)) t (standings_keep rules l w op (length w.txns) e L))))
   where

@@ -7,9 +7,9 @@ use Rattle.txn_types.specs.declared.txn.Txn.{Txn}
 use Rattle.txn_types.specs.declared.block.Block.{Block}
 use Rattle.txn_types.specs.declared.message.Vote.{Vote}
 use Rattle.txn_types.specs.declared.message.Commit.{Commit}
-use Rattle.oxii_defs.specs.State.{State}
+use Rattle.oxii_defs.specs.State.{State, contains}
 use Rattle.known_defs.specs.Known.{txn_at, no_outcome, after_known, knows_all}
-use Rattle.node_defs.specs.Same.{same_outcome, has}
+use Rattle.node_defs.specs.Same.{same_outcome}
 use Rattle.node_defs.specs.Counting.{first_of_each, first_to_reach}
 use Rattle.node_defs.specs.Rules.{Rules, in_force}
 use Rattle.node_defs.specs.Log.{Log, votes_in}
@@ -76,7 +76,7 @@ taken_up b (Some o) = o
 -- what is agreed on a transaction by these votes
 abbrev pub agreed_in : Rules → Txn → List (ℕ × Outcome) → Option Outcome
 agreed_in rules txn votes =
-    first_to_reach same_outcome (rules.tau txn.app) (filter (is_fit txn) (map (λ v. v.1) (filter (λ v. has (rules.agents txn.app) v.0) (first_of_each votes))))
+    first_to_reach same_outcome (rules.tau txn.app) (filter (is_fit txn) (map (λ v. v.1) (filter (λ v. contains (rules.agents txn.app) v.0) (first_of_each votes))))
 
 -- what the rules give a position, by what they give the positions before it and what votes agree
 abbrev pub found_one : Rules → ℕ → List Txn → State → Option Outcome → Txn → List (Option Outcome) → Option Outcome
@@ -150,7 +150,7 @@ pub record CutsMade (rules : Rules) (me n : ℕ) (b : Block) (before after : Lis
 
 -- `order` has just the positions that ran
 abbrev pub IsOrder : Rules → ℕ → Block → List (Option Outcome) → List ℕ → Type 0
-IsOrder rules me b known order = (t : ℕ) → t < length b.txns → has order t ≡ has_run rules me b.txns known t
+IsOrder rules me b known order = (t : ℕ) → t < length b.txns → contains order t ≡ has_run rules me b.txns known t
 
 -- what holding and cutting makes, for each order of what ran before
 abbrev pub Cut : Rules → ℕ → ℕ → Block → List (Option Outcome) → List (Option Outcome) → List Vote → List Vote → List Commit → List Commit → Type 0

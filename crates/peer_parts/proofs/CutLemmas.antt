@@ -1,6 +1,5 @@
 -- Votes held one after another are held and cut as the definitions say.
 use Rattle.std.specs.Prelude.{ℕ, ◌==◌, ◌<◌, ◌≤◌, ◌≡◌, Bool, true, false, ◌&&◌, ◌||◌, not, cond, List, [], ◌∷◌, ◌++◌, map, reverse, length, get_or, Option, None, is_some, nat_lt, zero, suc, refl}
-use Rattle.std.specs.List.{list_any}
 use Rattle.std.proofs.Common.{sym, ◌∙◌, ap, subst, arith, ⊎_elim, append_assoc}
 use Rattle.std.proofs.lemmas.Bool.{false≢true, cases_lt, eqb-true, eq-eqb, lt-ltb, le-ltb, and_parts}
 use Rattle.std.proofs.lemmas.List.{reverse-append, map-append}
@@ -9,20 +8,18 @@ use Rattle.txn_types.specs.declared.txn.Txn.{Txn}
 use Rattle.txn_types.specs.declared.block.Block.{Block}
 use Rattle.txn_types.specs.declared.message.Vote.{Vote}
 use Rattle.txn_types.specs.declared.message.Commit.{Commit}
+use Rattle.oxii_defs.specs.State.{contains}
 use Rattle.oxii_defs.specs.Dependency.{graph_of}
 use Rattle.known_defs.specs.Known.{txn_at}
 use Rattle.node_defs.specs.Rules.{Rules}
 use Rattle.node_defs.specs.Position.{Work, is_agent}
 use Rattle.node_defs.specs.Sent.{held, is_cut, all_own_in, other_app_follows}
 use Rattle.peer_laws.specs.Turns.{plain, has_run, just_ran, cuts_made, vote_of, cut_of, IsOrder, CutsMade}
+use Rattle.peer_laws.proofs.Steps.{contains-append}
 use Rattle.peer_parts.specs.Owning.{IsOwn}
 use Rattle.peer_parts.specs.Holding.{none_left, cut_behind, has_just, held_if, sent_if}
 
-any_append : {A : Type 0} (p : A → Bool) (xs ys : List A) → list_any p (xs ++ ys) ≡ (list_any p xs || list_any p ys)
-any_append p [] ys = refl
-any_append p (x ∷ xs) ys = elim (p x) as (λ b. (b || list_any p (xs ++ ys)) ≡ ((b || list_any p xs) || list_any p ys)) [ true ↦ refl | false ↦ any_append p xs ys ]
-
-in_just : (rules : Rules) (me : ℕ) (txns : List Txn) (before after : List (Option Outcome)) (n t : ℕ) → list_any (λ u. u == t) (just_ran rules me txns before after n) ≡ (nat_lt t n && (has_run rules me txns after t && not (is_some (get_or before t None))))
+in_just : (rules : Rules) (me : ℕ) (txns : List Txn) (before after : List (Option Outcome)) (n t : ℕ) → contains (just_ran rules me txns before after n) t ≡ (nat_lt t n && (has_run rules me txns after t && not (is_some (get_or before t None))))
 in_just rules me txns before after zero t = rw (le-ltb t 0 (omega arith)) refl
 in_just rules me txns before after (suc n) t = one (B n) refl (in_just rules me txns before after n t)
   where
@@ -33,17 +30,17 @@ in_just rules me txns before after (suc n) t = one (B n) refl (in_just rules me 
     both true = refl
     both false = refl
 
-    rest : list_any (λ u. u == t) (just_ran rules me txns before after n) ≡ (nat_lt t n && B t) → (n ≡ t → B t ≡ false) → list_any (λ u. u == t) (just_ran rules me txns before after n) ≡ (nat_lt t (suc n) && B t)
+    rest : contains (just_ran rules me txns before after n) t ≡ (nat_lt t n && B t) → (n ≡ t → B t ≡ false) → contains (just_ran rules me txns before after n) t ≡ (nat_lt t (suc n) && B t)
     rest ih h = ⊎_elim (λ lt. ih ∙ ap (λ b. b && B t) (lt-ltb t n lt ∙ sym (lt-ltb t (suc n) (omega arith))))
         (λ ge. ih ∙ (ap (λ b. b && B t) (le-ltb t n ge) ∙ ⊎_elim (λ lt. let q : n ≡ t = omega arith in sym (rw (h q) (both (nat_lt t (suc n))))) (λ ge2. sym (ap (λ b. b && B t) (le-ltb t (suc n) ge2))) (cases_lt t (suc n)))) (cases_lt t n)
 
-    one : (b : Bool) → B n ≡ b → list_any (λ u. u == t) (just_ran rules me txns before after n) ≡ (nat_lt t n && B t) → list_any (λ u. u == t) (cond b (n ∷ just_ran rules me txns before after n) (just_ran rules me txns before after n)) ≡ (nat_lt t (suc n) && B t)
+    one : (b : Bool) → B n ≡ b → contains (just_ran rules me txns before after n) t ≡ (nat_lt t n && B t) → contains (cond b (n ∷ just_ran rules me txns before after n) (just_ran rules me txns before after n)) t ≡ (nat_lt t (suc n) && B t)
     one false q ih = rest ih (λ s. ap B (sym s) ∙ q)
-    one true q ih = two (n == t) refl
+    one true q ih = two (t == n) refl
       where
-        two : (c : Bool) → (n == t) ≡ c → (c || list_any (λ u. u == t) (just_ran rules me txns before after n)) ≡ (nat_lt t (suc n) && B t)
-        two true s = let k : n ≡ t = eqb-true n t s in sym (rw (lt-ltb t (suc n) (omega (arith, k))) (ap B (sym k) ∙ q))
-        two false s = rest ih (λ k. absurd (false≢true (sym s ∙ eq-eqb n t k)))
+        two : (c : Bool) → (t == n) ≡ c → (c || contains (just_ran rules me txns before after n) t) ≡ (nat_lt t (suc n) && B t)
+        two true s = let k : n ≡ t = sym (eqb-true t n s) in sym (rw (lt-ltb t (suc n) (omega (arith, k))) (ap B (sym k) ∙ q))
+        two false s = rest ih (λ k. absurd (false≢true (sym s ∙ eq-eqb t n (sym k))))
 
 -- with t, all those below it that have just run, and those before
 own_in : (rules : Rules) (me : ℕ) (b : Block) (own : List Bool) (before after : List (Option Outcome)) (order : List ℕ) → IsOwn rules me b.txns own → IsOrder rules me b before order → (t : ℕ) → is_some (get_or after t None) ≡ true → (u : ℕ) → u ≤ length b.txns → all_own_in rules (plain me b.txns) (t ∷ (just_ran rules me b.txns before after t ++ order)) u ≡ none_left own before after t u
@@ -62,8 +59,8 @@ own_in rules me b own before after order is io t s (suc u) l = both (own_in rule
     both : {x y p q : Bool} → x ≡ y → p ≡ q → (p && x) ≡ (q && y)
     both e f = cc
 
-    seen : (a : Bool) → is_agent rules me (txn_at b.txns u) ≡ a → list_any (λ x. x == u) (J ++ order) ≡ ((nat_lt u t && ((a && now) && not old)) || (a && old))
-    seen a q = any_append (λ x. x == u) J order ∙ (ap (λ x. x || list_any (λ y. y == u) order) (in_just rules me b.txns before after t u) ∙ (ap (λ x. (nat_lt u t && ((is_agent rules me (txn_at b.txns u) && now) && not old)) || x) (io u (omega arith)) ∙ ap (λ x. (nat_lt u t && ((x && now) && not old)) || (x && old)) q))
+    seen : (a : Bool) → is_agent rules me (txn_at b.txns u) ≡ a → contains (J ++ order) u ≡ ((nat_lt u t && ((a && now) && not old)) || (a && old))
+    seen a q = contains-append J order u ∙ (ap (λ x. x || contains order u) (in_just rules me b.txns before after t u) ∙ (ap (λ x. (nat_lt u t && ((is_agent rules me (txn_at b.txns u) && now) && not old)) || x) (io u (omega arith)) ∙ ap (λ x. (nat_lt u t && ((x && now) && not old)) || (x && old)) q))
 
     plain_case : (e lt gt o k : Bool) → (e ≡ true → gt ≡ false) → (e ≡ true → k ≡ true) → (e ≡ false → lt ≡ not gt) → (e || ((lt && (k && not o)) || o)) ≡ (o || (not gt && k))
     plain_case true lt gt o k g h i = rw (g refl) (rw (h refl) (elim o as (λ x. true ≡ (x || true)) [ true ↦ refl | false ↦ refl ]))
@@ -74,16 +71,16 @@ own_in rules me b own before after order is io t s (suc u) l = both (own_in rule
     plain_case false lt false false true g h i = rw (i refl) refl
     plain_case false lt false false false g h i = rw (i refl) refl
 
-    one : (a : Bool) → is_agent rules me (txn_at b.txns u) ≡ a → (not (is_agent rules me (txn_at b.txns u)) || ((t == u) || list_any (λ x. x == u) (J ++ order))) ≡ (not (is_agent rules me (txn_at b.txns u)) || (old || (not (nat_lt t u) && now)))
+    one : (a : Bool) → is_agent rules me (txn_at b.txns u) ≡ a → (not (is_agent rules me (txn_at b.txns u)) || ((u == t) || contains (J ++ order) u)) ≡ (not (is_agent rules me (txn_at b.txns u)) || (old || (not (nat_lt t u) && now)))
     one false q = rw q refl
-    one true q = ap (λ x. not x || ((t == u) || list_any (λ y. y == u) (J ++ order))) q ∙ (ap (λ x. (t == u) || x) (seen true q) ∙ (plain_case (t == u) (nat_lt u t) (nat_lt t u) old now
-        (λ e. le-ltb t u (let k : t ≡ u = eqb-true t u e in omega (arith, k)))
-        (λ e. ap (λ z. is_some (get_or after z None)) (sym (eqb-true t u e)) ∙ s)
+    one true q = ap (λ x. not x || ((u == t) || contains (J ++ order) u)) q ∙ (ap (λ x. (u == t) || x) (seen true q) ∙ (plain_case (u == t) (nat_lt u t) (nat_lt t u) old now
+        (λ e. le-ltb t u (let k : t ≡ u = sym (eqb-true u t e) in omega (arith, k)))
+        (λ e. ap (λ z. is_some (get_or after z None)) (eqb-true u t e) ∙ s)
         (λ e. ⊎_elim (λ lt. lt-ltb u t lt ∙ sym (ap not (le-ltb t u (omega arith)))) (λ ge. le-ltb u t ge ∙ sym (ap not (lt-ltb t u (past e ge)))) (cases_lt u t))
         ∙ sym (ap (λ x. not x || (old || (not (nat_lt t u) && now))) q)))
       where
-        past : (t == u) ≡ false → t ≤ u → t < u
-        past e ge = ⊎_elim (λ lt. lt) (λ le. absurd (false≢true (sym e ∙ eq-eqb t u (let k : t ≡ u = omega arith in k)))) (cases_lt t u)
+        past : (u == t) ≡ false → t ≤ u → t < u
+        past e ge = ⊎_elim (λ lt. lt) (λ le. absurd (false≢true (sym e ∙ eq-eqb u t (let k : u ≡ t = omega arith in k)))) (cases_lt t u)
 
 pub cut_is : (rules : Rules) (me : ℕ) (b : Block) (own : List Bool) (before after : List (Option Outcome)) (order : List ℕ) → length own ≡ length b.txns → IsOwn rules me b.txns own → IsOrder rules me b before order → (t : ℕ) → is_some (get_or after t None) ≡ true → is_cut rules (plain me b.txns) (t ∷ (just_ran rules me b.txns before after t ++ order)) ≡ cut_behind rules.table.kind b.txns own before after t
 cut_is rules me b own before after order lo is io t s = ap (λ x. other_app_follows t (txn_at b.txns t).app (graph_of rules.table.kind b.txns) b.txns || x) (own_in rules me b own before after order is io t s (length b.txns) (omega arith) ∙ ap (none_left own before after t) (sym lo))

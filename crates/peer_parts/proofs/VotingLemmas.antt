@@ -11,7 +11,7 @@ use Rattle.txn_types.specs.declared.message.Node.{Node}
 use Rattle.txn_types.specs.declared.message.Node.TheVariants.{Peer}
 use Rattle.txn_types.specs.declared.message.Vote.{Vote}
 use Rattle.known_defs.specs.Known.{txn_at}
-use Rattle.node_defs.specs.Same.{has}
+use Rattle.oxii_defs.specs.State.{contains}
 use Rattle.node_defs.specs.Rules.{Rules}
 use Rattle.node_defs.specs.Log as log
 use Rattle.vote_book.specs.Puts.{Cast, cast_of, answer_to_vote, voter_of, cast_on}
@@ -47,7 +47,7 @@ tag : ℕ → Outcome → ℕ × Outcome
 tag p o = (p, o)
 
 -- one put is one vote on its position, and none on others
-pub one_put : (voters : List ℕ) (p n t : ℕ) (o : Outcome) (k u : ℕ) (puts : List Cast) → has voters p ≡ true → cast_on voters k u (cast_of (Peer p) n t o ∷ puts) ≡ cond ((n == k) && (t == u)) ((p, o) ∷ cast_on voters k u puts) (cast_on voters k u puts)
+pub one_put : (voters : List ℕ) (p n t : ℕ) (o : Outcome) (k u : ℕ) (puts : List Cast) → contains voters p ≡ true → cast_on voters k u (cast_of (Peer p) n t o ∷ puts) ≡ cond ((n == k) && (t == u)) ((p, o) ∷ cast_on voters k u puts) (cast_on voters k u puts)
 one_put voters p n t o k u puts h = one ((n == k) && (t == u))
   where
     one : (b : Bool) → cons_option (cond b (option_map (λ q. (q, o)) (voter_of voters (Peer p))) None) (cast_on voters k u puts) ≡ cond b ((p, o) ∷ cast_on voters k u puts) (cast_on voters k u puts)
@@ -59,7 +59,7 @@ nil [] = refl
 nil (x ∷ xs) = ap (λ ys. x ∷ ys) (nil xs)
 
 -- the votes of a message on a position come before what was put
-pub heard_is : (voters : List ℕ) (p n : ℕ) (vs : List Vote) (k u : ℕ) (puts : List Cast) → has voters p ≡ true → cast_on voters k u (with_casts (Peer p) n vs puts) ≡ (if n == k then map (λ o. (p, o)) (reverse (log.outcomes_on u vs)) else []) ++ cast_on voters k u puts
+pub heard_is : (voters : List ℕ) (p n : ℕ) (vs : List Vote) (k u : ℕ) (puts : List Cast) → contains voters p ≡ true → cast_on voters k u (with_casts (Peer p) n vs puts) ≡ (if n == k then map (λ o. (p, o)) (reverse (log.outcomes_on u vs)) else []) ++ cast_on voters k u puts
 heard_is voters p n vs k u puts h = one (n == k) refl
   where
     other : (n == k) ≡ false → (ws : List Vote) (ps : List Cast) → cast_on voters k u (with_casts (Peer p) n ws ps) ≡ cast_on voters k u ps
@@ -85,7 +85,7 @@ heard_is voters p n vs k u puts h = one (n == k) refl
 
 -- THIS PEER'S OWN
 
-own_one : (voters : List ℕ) (me n t : ℕ) (own : Bool) (before after : Option Outcome) (k u : ℕ) (puts : List Cast) → has voters me ≡ true → cast_on voters k u (own_casts me n t own before after ++ puts) ≡ cond ((n == k) && (t == u)) (elim after [ None ↦ [] | Some o ↦ cond {A = List (ℕ × Outcome)} (own && not (is_some before)) ((me, o) ∷ []) [] ]) [] ++ cast_on voters k u puts
+own_one : (voters : List ℕ) (me n t : ℕ) (own : Bool) (before after : Option Outcome) (k u : ℕ) (puts : List Cast) → contains voters me ≡ true → cast_on voters k u (own_casts me n t own before after ++ puts) ≡ cond ((n == k) && (t == u)) (elim after [ None ↦ [] | Some o ↦ cond {A = List (ℕ × Outcome)} (own && not (is_some before)) ((me, o) ∷ []) [] ]) [] ++ cast_on voters k u puts
 own_one voters me n t own before None k u puts h = elim ((n == k) && (t == u)) as (λ b. cast_on voters k u puts ≡ cond {A = List (ℕ × Outcome)} b [] [] ++ cast_on voters k u puts) [ true ↦ refl | false ↦ refl ]
 own_one voters me n t own before (Some o) k u puts h = one (own && not (is_some before))
   where
@@ -97,7 +97,7 @@ abbrev ran_votes : ℕ → Bool → Option Outcome → Option Outcome → List (
 ran_votes me own before None = []
 ran_votes me own before (Some o) = if own && not (is_some before) then (me, o) ∷ [] else []
 
-own_all : (voters : List ℕ) (me n : ℕ) (own : List Bool) (before after : List (Option Outcome)) (m k u : ℕ) (puts : List Cast) → has voters me ≡ true
+own_all : (voters : List ℕ) (me n : ℕ) (own : List Bool) (before after : List (Option Outcome)) (m k u : ℕ) (puts : List Cast) → contains voters me ≡ true
     → cast_on voters k u (own_upto me n own before after m puts) ≡ cond ((n == k) && nat_lt u m) (ran_votes me (get_or own u false) (get_or before u None) (get_or after u None)) [] ++ cast_on voters k u puts
 own_all voters me n own before after zero k u puts h = rw (le-ltb u 0 (omega arith)) (elim (n == k) as (λ b. cast_on voters k u puts ≡ cond {A = List (ℕ × Outcome)} (b && false) (ran_votes me (get_or own u false) (get_or before u None) (get_or after u None)) [] ++ cast_on voters k u puts) [ true ↦ refl | false ↦ refl ])
 own_all voters me n own before after (suc m) k u puts h =
@@ -129,7 +129,7 @@ own_all voters me n own before after (suc m) k u puts h =
         further (inr g) = absurd (false≢true (sym e ∙ eq-eqb m u (let q : m ≡ u = omega arith in q)))
 
 -- own votes are put on block n, and nothing else
-pub votes_put : (r : Rules) (voters : List ℕ) (me n : ℕ) (b : Block) (own : List Bool) (before after : List (Option Outcome)) (puts : List Cast) → has voters me ≡ true → IsOwn r me b.txns own
+pub votes_put : (r : Rules) (voters : List ℕ) (me n : ℕ) (b : Block) (own : List Bool) (before after : List (Option Outcome)) (puts : List Cast) → contains voters me ≡ true → IsOwn r me b.txns own
     → VotesPut r me b n before after (λ k u. cast_on voters k u puts) (λ k u. cast_on voters k u (own_upto me n own before after (length b.txns) puts))
 votes_put r voters me n b own before after puts h o = record {
   here = λ t. own_all voters me n own before after (length b.txns) n t puts h ∙ ap (λ (xs : List (ℕ × Outcome)). xs ++ cast_on voters n t puts) (ap (λ c. cond (c && nat_lt t (length b.txns)) (ran_votes me (get_or own t false) (get_or before t None) (get_or after t None)) []) (eq-eqb n n refl) ∙ one t (cases_lt t (length b.txns)));

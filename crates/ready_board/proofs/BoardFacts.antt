@@ -6,15 +6,19 @@ use Rattle.std.specs.Prelude.{is_some}
 use Rattle.txn_types.specs.declared.txn.Txn.{Txn}
 use Rattle.txn_types.specs.Values.{max_value}
 use Rattle.oxii_defs.specs.State.{value_in, contains}
-use Rattle.known_defs.specs.Known.{txn_at, no_txn}
+use Rattle.known_defs.specs.Known.{txn_at}
 use Rattle.board_defs.specs.Closure.{Plan, is_own}
 use Rattle.board_core.specs.declared.view.View.{View}
 use Rattle.board_core.specs.Counts.{times}
 use Rattle.board_core.specs.Script.{Uses, serial_value, Script, IsSound}
 use Rattle.board_core.specs.Parts.{Counts}
 use Rattle.board_core.specs.Passes.{IsHeld, IsSettled}
-use Rattle.ready_board.specs.Boards.{AreRows}
-use Rattle.board_work.specs.Scripts.{script, reads_at, writes_at, outcome_at, meant_at, state_before, uses_at}
+use Rattle.board_words.specs.Filled.{AreRows}
+use Rattle.board_steps.specs.Abouts.{told}
+use Rattle.txn_types.specs.Rising.{IsRising}
+use Rattle.ready_board.specs.Boards.{IsPassOf, Standing}
+use Rattle.ready_board.specs.Seen.{Seen}
+use Rattle.board_work.specs.Scripts.{script, reads_at, writes_at, outcome_at, meant_at, state_before, uses_at, AreHeld}
 use Rattle.script_laws.specs.Laws.{IsFullPlan}
 use Rattle.script_laws.proofs.Sound.{own_below, used_below, or_second, runs_comes}
 use Rattle.txn_types.specs.declared.txn.Outcome.{Outcome}
@@ -30,9 +34,17 @@ held_own plan v t settled held = (and_parts (is_own plan t) (is_some (outcome_at
 pub held_below : (plan : Plan) (v : View) (t : ℕ) → IsFullPlan plan → IsSettled (script plan) v → IsHeld v t → t < length plan.txns
 held_below plan v t h settled held = own_below plan h t (held_own plan v t settled held)
 
--- the transaction at a place
-pub txn_there : (txns : List Txn) (plan : Plan) (t : ℕ) (x : Txn) → txns ≡ plan.txns → t < length plan.txns → x ≡ get_or txns t x → x ≡ txn_at plan.txns t
-txn_there txns plan t x e l is = is ∙ (ap (λ ts. get_or ts t x) e ∙ get_or_default plan.txns t x no_txn l)
+-- what holds of the plan of a board holds of the plan of its passes
+pub settled_by : (plan mine : Plan) (v : View) → mine ≡ plan → IsSettled (script mine) v → IsSettled (script plan) v
+settled_by plan mine v e settled = subst (λ z. IsSettled (script z) v) e settled
+
+-- boards that are one have one plan
+pub plan_is : (a b : Standing) → a ≡ b → told a.about ≡ told b.about
+plan_is a b e = ap (λ z. told z.about) e
+
+-- a pass of a board has the plan that the board's words are for
+pub pass_plan : (a b : Standing) (p q : Seen) → p ≡ q → IsPassOf b q → a ≡ b → told p.about ≡ told a.about
+pass_plan a b p q pass of board = ap (λ z. told z.about) pass ∙ (of.plan ∙ sym (plan_is a b board))
 
 or_one : (a b : Bool) → a ≡ true → (a || b) ≡ true
 or_one true b e = refl
@@ -64,9 +76,22 @@ inputs_small plan t rs out h l e each k lk =
     let is = each k (omega arith) ∙ sym (serial_is plan t (get_or rs k 0) (omega arith)) in
     let small = value_small (state_before plan t) (get_or rs k 0) (state_ok plan h.lawful t (omega arith)) in omega arith
 
--- what a held position is finished with is what it comes to
-pub outcome_meant : (plan : Plan) (v : View) (t : ℕ) (o : Outcome) → IsFullPlan plan → IsSettled (script plan) v → IsHeld v t → o ≡ meant_at plan t → outcome_at plan t ≡ Some o
-outcome_meant plan v t o h settled held e = runs_comes plan h t (settled.runs t held.begun) ∙ ap Some (sym e)
+-- a held position comes to what its operation means
+pub held_comes : (plan : Plan) (v : View) (t : ℕ) → IsFullPlan plan → IsSettled (script plan) v → IsHeld v t → outcome_at plan t ≡ Some (meant_at plan t)
+held_comes plan v t h settled held = runs_comes plan h t (settled.runs t held.begun)
+
+-- the records that the transaction at t reads, and writes, where the words are for this plan
+pub reads_there : (key plan : Plan) (t : ℕ) (x : Txn) (rs : List ℕ) → key ≡ plan → IsFullPlan key → x ≡ txn_at plan.txns t → rs ≡ x.reads → (k : ℕ) → k < length rs → (get_or rs k 0 < length key.table.records) × Uses (script key) t (get_or rs k 0)
+reads_there key plan t x rs same h is row k l = read_of key t k rs h (row ∙ (ap (λ (y : Txn). y.reads) is ∙ sym (ap (λ (z : Plan). reads_at z t) same))) l
+
+pub writes_there : (key plan : Plan) (t : ℕ) (x : Txn) (ws : List ℕ) → key ≡ plan → IsFullPlan key → AreHeld key → x ≡ txn_at plan.txns t → ws ≡ x.writes → (ws ≡ writes_at key t) × IsRising ws × ((k : ℕ) → k < length ws → get_or ws k 0 < length key.table.records)
+writes_there key plan t x ws same h held is row =
+    let all : ws ≡ writes_at key t = row ∙ (ap (λ (y : Txn). y.writes) is ∙ sym (ap (λ (z : Plan). writes_at z t) same)) in
+    (all, subst IsRising (sym all) (held.rising t), λ k l. write_of key t k ws h all l)
+
+-- an outcome that is meant, where the words are for this plan
+pub meant_there : (key plan : Plan) (t : ℕ) (o : Outcome) → key ≡ plan → outcome_at plan t ≡ Some (meant_at plan t) → o ≡ meant_at plan t → outcome_at key t ≡ Some o
+meant_there key plan t o same comes e = ap (λ z. outcome_at z t) same ∙ (comes ∙ ap Some (sym e))
 
 -- what became a duty stands in the row, so it is an own position
 pub made_is_own : (p : Script) (t : ℕ) (row made : List ℕ) (c w : View) → IsSound p → ((y : ℕ) → times y row ≡ p.edge t y) → Counts row t c w [] made → (y : ℕ) → 0 < times y made → p.own y ≡ true
@@ -78,3 +103,7 @@ row_there plan t rows all x row h e is at l =
     let long = h.long in
     let same : row ≡ get_or rows t [] = is ∙ (at ∙ (ap (λ ys. get_or ys t x) e ∙ get_or_default rows t x [] (omega arith))) in
     (subst (λ (r : List ℕ). length r ≤ 256) (sym same) (h.short t), λ y. ap (times y) same ∙ h.edges t y l)
+
+-- a row, where the words are for this plan
+pub row_by : (key plan : Plan) (t : ℕ) (row : List ℕ) → key ≡ plan → ((y : ℕ) → times y row ≡ (script plan).edge t y) → (y : ℕ) → times y row ≡ (script key).edge t y
+row_by key plan t row same edges y = edges y ∙ sym (ap (λ (z : Plan). (script z).edge t y) same)

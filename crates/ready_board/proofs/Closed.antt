@@ -9,7 +9,7 @@ use Rattle.board_defs.specs.Trace.{Span}
 use Rattle.board_core.specs.Counts.{Run}
 use Rattle.board_core.specs.Traces.{IsTrace}
 use Rattle.script_laws.specs.Placed.{span_of_run, with_run, placed}
-use Rattle.script_laws.proofs.Traced.{run_own, run_other}
+use Rattle.script_laws.proofs.Traced.{run_own, run_other, traces_law}
 use Rattle.trace_laws.proofs.Members.{Has, has_cases, all_of}
 use Rattle.std.specs.Prelude.{is_some}
 use Rattle.std.proofs.lemmas.Bool.{and_from, and_parts, cases_Bool}
@@ -28,24 +28,39 @@ use Rattle.board_core.specs.Rule.{Holds}
 use Rattle.board_core.specs.Passes.{IsSettled, IsComplete, IsDone}
 use Rattle.board_core.proofs.Closing.{word_runs, word_rests}
 use Rattle.board_work.specs.Scripts.{script, outcome_at, writes_at, word_of}
-use Rattle.script_laws.specs.Laws.{IsFullPlan}
+use Rattle.script_laws.specs.Laws.{IsFullPlan, IsLawfulClose}
 use Rattle.script_laws.proofs.Sound.{own_below}
 use Rattle.script_laws.proofs.Fitted.{outcome_fits, fits_long}
 
+-- the last pass, as the rule of its board sees it
+pub record IsLast (p : Script) (v : View) : Type 0 where
+  pub complete : IsComplete v
+  pub settled : IsSettled p v
+  pub done : IsDone v
+
+pub last_is : (key mine : Plan) (v u : View) → mine ≡ key → v ≡ u → IsSettled (script mine) v → IsComplete u → ((t : ℕ) → 0 < times t u.duties → 0 < times t u.tried) → ((t : ℕ) → 0 < times_first t u.begins → 0 < times_first t u.finishes) → IsLast (script key) v
+last_is key mine v u same e settled complete tried free =
+    let here = subst (λ z. IsSettled (script z) v) same settled in record {
+      complete = subst IsComplete (sym e) complete;
+      settled = here;
+      done = record {
+        tried = subst (λ (x : View). (t : ℕ) → 0 < times t x.duties → 0 < times t x.tried) (sym e) tried;
+        begun = here.taken_begun;
+        finished = subst (λ (x : View). (t : ℕ) → 0 < times_first t x.begins → 0 < times_first t x.finishes) (sym e) free;
+      };
+    }
+
 -- each word of an own position is that of what it comes to
-pub word_is : (q : Plan) (s : State ℕ View) (id : ℕ) (v : View) → Holds (script q) s → get_elem? s.views id ≡ some v → IsComplete v → IsSettled (script q) v → IsDone v → (t k : ℕ) → is_own q t ≡ true → k < 1 + length (writes_at q t) → part s.words t k ≡ word_of (outcome_at q t) k
-word_is q s id v h at all settled' done t k own l = go (outcome_at q t) refl
+pub word_is : (q : Plan) (s : State ℕ View) (id : ℕ) (v : View) → Holds (script q) s → get_elem? s.views id ≡ some v → IsLast (script q) v → (t k : ℕ) → is_own q t ≡ true → k < 1 + length (writes_at q t) → part s.words t k ≡ word_of (outcome_at q t) k
+word_is q s id v h at last t k own l = go (outcome_at q t) refl
   where
     go : (o : Option Outcome) → outcome_at q t ≡ o → part s.words t k ≡ word_of (outcome_at q t) k
-    go (Some x) e = word_runs (script q) s id v h at all settled' done t k (and_from (is_own q t) (is_some (outcome_at q t)) own (ap is_some e)) l
-    go None e = word_rests (script q) s id v h at all settled' done t k own (λ runs. let a = (and_parts (is_own q t) (is_some (outcome_at q t)) runs).1 in let b = ap is_some e in absurd (cc)) l ∙ sym (ap (λ o. word_of o k) e)
+    go (Some x) e = word_runs (script q) s id v h at last.complete last.settled last.done t k (and_from (is_own q t) (is_some (outcome_at q t)) own (ap is_some e)) l
+    go None e = word_rests (script q) s id v h at last.complete last.settled last.done t k own (λ runs. let a = (and_parts (is_own q t) (is_some (outcome_at q t)) runs).1 in let b = ap is_some e in absurd (cc)) l ∙ sym (ap (λ o. word_of o k) e)
 
 -- a commit has an entry for each record written
 pub cells_long : (q : Plan) (t : ℕ) (cells : List (Option ℕ)) → IsFullPlan q → is_own q t ≡ true → outcome_at q t ≡ Some (Commit cells) → length cells ≡ length (writes_at q t)
 cells_long q t cells h own e = fits_long (txn_at q.txns t) (Commit cells) cells (outcome_fits q h.lawful t (Commit cells) (own_below q h t own) e) refl
-
-pub is_done : (p : Script) (v : View) → IsSettled p v → ((t : ℕ) → 0 < times t v.duties → 0 < times t v.tried) → ((t : ℕ) → 0 < times_first t v.begins → 0 < times_first t v.finishes) → IsDone v
-is_done p v settled tried free = record { tried = tried; begun = settled.taken_begun; finished = free }
 
 -- what a run gives each position
 length_upto : (q : Plan) (n : ℕ) → length (run_outcomes_upto q n) ≡ n
@@ -75,6 +90,12 @@ places v run_at each (suc m) s has = go (places v run_at each m s) (run_at m) re
     go more None e i = more i
 
 -- the workers of the trace are numbers that the pass has taken in
-pub workers_are : (q : Plan) (v : View) (run_at : ℕ → Option Run) → IsTrace (script q) v run_at → All (λ s. 0 < times s.worker v.numbers) (placed run_at (length q.txns))
+workers_are : (q : Plan) (v : View) (run_at : ℕ → Option Run) → IsTrace (script q) v run_at → All (λ s. 0 < times s.worker v.numbers) (placed run_at (length q.txns))
 workers_are q v run_at trace = all_of (λ s. 0 < times s.worker v.numbers) (placed run_at (length q.txns))
     (λ s has. let p = places v run_at (λ t r is. (trace.by_pass t r is).0) (length q.txns) s has in subst (λ (x : Span). 0 < times x.worker v.numbers) (sym p.1) p.2)
+
+-- a lawful close, where the words are for this plan and the pass is this one
+pub closes_by : (key plan : Plan) (v u : View) (run_at : ℕ → Option Run) (spans : List Span) → key ≡ plan → v ≡ u → IsFullPlan key → IsTrace (script key) v run_at → spans ≡ placed run_at (length key.txns)
+    → IsLawfulClose plan u spans × All (λ s. 0 < times s.worker u.numbers) spans
+closes_by key plan v u run_at spans same e h trace is = subst (λ xs. IsLawfulClose plan u xs × All (λ s. 0 < times s.worker u.numbers) xs) (sym is)
+    (subst (λ q. IsLawfulClose q u (placed run_at (length key.txns))) same (subst (λ z. IsLawfulClose key z (placed run_at (length key.txns))) e (traces_law key v run_at h trace)), subst (λ (z : View). All (λ s. 0 < times s.worker z.numbers) (placed run_at (length key.txns))) e (workers_are key v run_at trace))

@@ -1,10 +1,10 @@
 -- The first pass: its duties are the own positions all of whose predecessors are known.
-use Rattle.std.proofs.Common.{◌≡◌, ℕ, zero, suc, true, false, ◌≤◌, ⊎_elim, List, [], ◌∷◌, length, take, sym, refl, ap, ◌∙◌, subst, arith, Option, Some, None}
+use Rattle.std.proofs.Common.{◌≡◌, ℕ, true, false, ⊎_elim, length, take, sym, refl, ap, ◌∙◌, subst, arith, Option, Some, None}
 use Rattle.std.specs.Prelude.{is_some, nat_lt, Result, IfOk}
 use Rattle.std.specs.declared.result.Result.TheVariants.{Ok, Err}
 use mathlib.Core.Logic.{dite}
 use native.Mathlib.Decide.{ℕ_discrete}
-use Rattle.std.proofs.lemmas.List.{get_or-take}
+use Rattle.std.proofs.lemmas.List.{get_or-take, length-take-le}
 use Rattle.std.proofs.lemmas.Bool.{false≢true, and_parts, and_from, lt-ltb, cases_Bool}
 use Rattle.txn_types.specs.declared.txn.Outcome.{Outcome}
 use Rattle.oxii_defs.specs.Dependency.{depends}
@@ -20,17 +20,12 @@ use Rattle.script_laws.proofs.Sound.{own_below, edge_is, edge_of, knows_at, know
 use Rattle.board_steps.specs.Abouts.{told}
 use Rattle.ready_board.specs.Boards.{Standing, IsPassOf, board_home}
 use Rattle.ready_board.specs.Seen.{Seen, state_of_view, pass_state}
-use Rattle.ready_board.proofs.Opens.{ready_low, ready_all}
+use Rattle.board_words.proofs.Opens.{ready_low, ready_all}
 
 -- two facts of one value
 pub both_ok : {T E : Type 0} (r : Result T E) (P Q : T → Type 0) → IfOk r P → IfOk r Q → IfOk r (λ x. P x × Q x)
 both_ok (Ok x) P Q p q = (p, q)
 both_ok (Err e) P Q p q = tt
-
-length_take : {A : Type 0} (n : ℕ) (xs : List A) → n ≤ length xs → length (take n xs) ≡ n
-length_take zero xs l = refl
-length_take (suc n) [] l = absurd (omega arith)
-length_take (suc n) (x ∷ xs) l = ap suc (length_take n xs (omega arith))
 
 none_of : (o : Option Outcome) → is_some o ≡ false → o ≡ None
 none_of (Some x) e = absurd (false≢true (sym e))
@@ -39,7 +34,7 @@ none_of None e = refl
 module _ (plan : Plan) (h : IsFullPlan plan) where
   -- what waits for none has all its predecessors known
   waits_for_none : (t : ℕ) → is_own plan t ≡ true → planned (script plan) t ≡ 0 → knows_all plan.table.kind (txn_at plan.txns t) plan.txns (take t plan.known) ≡ true
-  waits_for_none t own zero_need = let l = own_below plan h t own in let long = h.lawful.known_long in let len = length_take t plan.known (omega arith) in
+  waits_for_none t own zero_need = let l = own_below plan h t own in let long = h.lawful.known_long in let len = length-take-le t plan.known (omega arith) in
       knows_from plan.table.kind (txn_at plan.txns t) plan.txns (take t plan.known) (λ s a b d.
       ⊎_elim (λ known. subst (λ o. is_some o ≡ true) (sym (get_or-take t plan.known s None (omega arith))) known)
       (λ unknown. absurd (let e = edge_of plan h s t own (none_of (known_at plan s) unknown) (and_from (nat_lt s t) (depends plan.table.kind (txn_at plan.txns s) (txn_at plan.txns t)) (lt-ltb s t (omega arith)) d) in
@@ -47,7 +42,7 @@ module _ (plan : Plan) (h : IsFullPlan plan) where
       (cases_Bool (is_some (known_at plan s))))
 
   known_waits_none : (t : ℕ) → is_own plan t ≡ true → knows_all plan.table.kind (txn_at plan.txns t) plan.txns (take t plan.known) ≡ true → planned (script plan) t ≡ 0
-  known_waits_none t own knows = let l = own_below plan h t own in let long = h.lawful.known_long in let len = length_take t plan.known (omega arith) in
+  known_waits_none t own knows = let l = own_below plan h t own in let long = h.lawful.known_long in let len = length-take-le t plan.known (omega arith) in
       below_zero (length plan.txns) (λ s. one_if (waits plan s t)) (λ s ls. dite (ℕ_discrete (one_if (waits plan s t)) 0) (λ z. z) (λ n. absurd (
       let e = edge_is plan h s t (omega arith) in let lt = e.2 in
       let some = knows_at plan.table.kind (txn_at plan.txns t) plan.txns (take t plan.known) s knows (omega arith) ls e.3 in

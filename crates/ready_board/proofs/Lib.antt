@@ -1,9 +1,6 @@
-pub mod PassFacts
-pub mod Filling
 pub mod BoardFacts
-pub mod StateFacts
-pub mod Decode
 pub mod Closed
-pub mod Opens
-pub mod Gathered
 pub mod Firsts
+pub mod Fresh
+pub mod PassFacts
+pub mod StateFacts

@@ -15,7 +15,7 @@ use Rattle.board_core.proofs.Totals.{hits, hit_pair_same}
 use native.Mathlib.Decide.{dec_lt}
 use Rattle.std.proofs.lemmas.List.{get_or_past}
 use Rattle.board_work.specs.declared.plan.Span.{Span}
-use Rattle.ready_board.specs.Seen.{run_of, run_at}
+use Rattle.board_words.specs.Runs.{run_of, run_at}
 use Rattle.board_core.proofs.PassFits.{AreEither}
 
 -- what stays settled

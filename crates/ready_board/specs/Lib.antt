@@ -1,5 +1,6 @@
 pub use Rattle.board_work.specs.PassStates
 pub use Rattle.board_work.specs.Plans
-pub mod Words
+pub use Rattle.board_words.specs.Filled
+pub use Rattle.board_words.specs.Runs
 pub mod Seen
 pub mod Boards

@@ -1,11 +1,10 @@
 -- A pass of a board: what contracts of this crate see, and the state that it stands for.
-use Rattle.std.specs.Prelude.{◌==◌, ℕ, List, [], ◌∷◌, map, slice_index_or, Option, Some, None, if◌then◌else◌}
+use Rattle.std.specs.Prelude.{◌==◌, ℕ, List, [], ◌∷◌, map, if◌then◌else◌}
 use Rattle.atomic_table.specs.Seated.{TableId}
 use Rattle.board_core.specs.declared.view.View.{View}
-use Rattle.board_core.specs.Counts.{times_first, Run}
+use Rattle.board_core.specs.Counts.{times_first}
 use Rattle.board_steps.specs.declared.about.About.{About}
 use Rattle.board_steps.specs.Abouts.{told}
-use Rattle.board_work.specs.declared.plan.Span.{Span}
 use Rattle.board_work.specs.PassStates.{Home, PassState}
 use Rattle.script_laws.specs.Placed.{span_of_run}
 
@@ -16,15 +15,6 @@ pub record Seen : Type 0 where
 
 abbrev pub seen : TableId → About → View → Seen
 seen z a v = record { table = z; about = a; view = v }
-
--- a span as a run
-abbrev pub run_of : Option Span → Option Run
-run_of (Some s) = Some (s.t, s.worker, s.begin, s.finish)
-run_of None = None
-
--- the run at a place
-abbrev pub run_at : List (Option Span) → ℕ → Option Run
-run_at runs t = run_of (slice_index_or runs t None)
 
 -- what has begun and isn't finished
 abbrev pub open_of : List (ℕ × ℕ) → List (ℕ × ℕ) → List ℕ

@@ -1,5 +1,5 @@
 //! The calls on a pass.
-ghost use Rattle.std.specs.Prelude.{◌≡◌, ◌≢◌, ◌<◌, ◌*◌, ◌+◌, ◌≤◌, ℕ, [], ◌∷◌, length, map, take, slice_index, slice_index_or, None, IfOk, OnErr, MatchOption, true};
+ghost use Rattle.std.specs.Prelude.{◌≡◌, ◌≢◌, ◌<◌, ◌*◌, ◌+◌, ◌≤◌, ℕ, [], ◌∷◌, length, map, take, slice_index, Some, IfOk, OnErr, MatchOption, true};
 ghost use Rattle.txn_types.specs.Values.{max_value};
 ghost use Rattle.oxii_defs.specs.State.{value_in};
 ghost use Rattle.std.specs.List.{All};
@@ -7,20 +7,20 @@ ghost use Rattle.board_defs.specs.Closure.{is_own, run_outcomes};
 ghost use Rattle.board_core.specs.Counts.{times_first, times};
 ghost use Rattle.board_core.specs.Steps.{joined, newcomer, splitting};
 ghost use Rattle.board_steps.specs.Abouts.{told};
-ghost use Rattle.board_work.specs.Scripts.{reads_at, state_before, meant_at, script, AreHeld};
+ghost use Rattle.known_defs.specs.Known.{txn_at};
+ghost use Rattle.board_work.specs.Scripts.{reads_at, state_before, meant_at, outcome_at, script, AreHeld};
 ghost use Rattle.script_laws.specs.Laws.{IsFullPlan};
 ghost use Rattle.std.specs.Prelude.{false};
 
-use crate::closing::{gather, shorten};
 use crate::opening::open_board;
-use crate::pass::{Pass, merge_flags, merge_runs, merge_stamps, put_run};
-use crate::reading::read_all;
+use crate::pass::{Marks, Pass, merge_flags, merge_runs, merge_stamps, no_marks, put_run};
 use atomic_table::Table;
 use board_core::View;
 use board_steps::{
     About, Another, Both, Rule, begin_stamp, count_all, finish_stamp, load_all, load_need,
     publish_all, swap_turn, write_all,
 };
+use board_words::{read_all, spans_of};
 use board_work::{Made, Own, Plan, Ran, Spans, Take, Work};
 use std::alloc::Global;
 use std::marker::{Brand, Model};
@@ -48,7 +48,8 @@ impl Model for Board {
     ghost use Rattle.board_steps.specs.Abouts.{told, HasRoom};
     ghost use Rattle.board_work.specs.Scripts.{AreHeld};
     ghost use Rattle.script_laws.specs.Laws.{IsFullPlan};
-    ghost use Rattle.ready_board.specs.Boards.{Standing, standing, AreRows, AreEmpty};
+    ghost use Rattle.board_words.specs.Filled.{AreRows, AreEmpty};
+    ghost use Rattle.ready_board.specs.Boards.{Standing, standing};
 
     ghost Value = { Standing };
 
@@ -69,6 +70,38 @@ impl Board {
         ensures held { AreHeld (told self.now.about) }
     {
         let _ = &self.rows;
+    }
+
+    // A position that the pass holds is in the block, and comes to what its operation means.
+    fn holds(&self, pass: &Pass, t: usize)
+        requires of { IsPassOf self.now pass.now }
+        requires held { IsHeld pass.now.view t }
+        ensures place { t < length (told self.now.about).txns }
+        ensures few { length (told self.now.about).txns ≤ 256 }
+        ensures comes { outcome_at (told self.now.about) t ≡ Some (meant_at (told self.now.about) t) }
+    {
+        self.stands();
+        pass.stands();
+    }
+
+    fn held_txn(&self, pass: &Pass, t: usize) -> &Txn
+        requires of { IsPassOf self.now pass.now }
+        requires held { IsHeld pass.now.view t }
+        ensures { result.now ≡ txn_at (told self.now.about).txns t }
+    {
+        self.holds(pass, t);
+        &self.txns.as_slice()[t]
+    }
+
+    // The own positions that wait for it.
+    fn held_row(&self, pass: &Pass, t: usize) -> &[u16]
+        requires of { IsPassOf self.now pass.now }
+        requires held { IsHeld pass.now.view t }
+        ensures short { length result.now ≤ 256 }
+        ensures edges { (y : ℕ) → times y result.now ≡ (script (told self.now.about)).edge t y }
+    {
+        self.holds(pass, t);
+        self.rows.as_slice()[t].as_slice()
     }
 
     pub(crate) fn take_at(&self, pass: &mut Pass, t: usize) -> Take
@@ -99,11 +132,15 @@ impl Board {
         ensures values { take (length (reads_at (told self.now.about) t)) out.new ≡ map (value_in (state_before (told self.now.about) t)) (reads_at (told self.now.about) t) }
         ensures range { (k : ℕ) → k < length (reads_at (told self.now.about) t) → slice_index out.new k ≤ max_value }
     {
-        self.stands();
-        pass.stands();
-        let words = &self.table.shared;
-        let txn = &self.txns.as_slice()[t];
-        load_all(words, txn.reads.as_slice(), &mut pass.seat, t, out);
+        self.holds(pass, t);
+        let txn = self.held_txn(pass, t);
+        load_all(
+            &self.table.shared,
+            txn.reads.as_slice(),
+            &mut pass.seat,
+            t,
+            out,
+        );
     }
 
     pub(crate) fn finish_at(&self, pass: &mut Pass, t: usize, outcome: &Outcome, made: &mut Made)
@@ -115,17 +152,16 @@ impl Board {
         ensures ends { Ends t pass.old.view pass.new.view made.new }
         ensures made_own { (y : ℕ) → 0 < times y made.new → is_own (told self.now.about) y ≡ true }
     {
-        self.stands();
-        pass.stands();
+        self.holds(pass, t);
+        let txn = self.held_txn(pass, t);
+        let row = self.held_row(pass, t);
         let words = &self.table.shared;
-        let txn = &self.txns.as_slice()[t];
         let writes = txn.writes.as_slice();
         let begin = pass.begin_of(t);
         publish_all(words, writes.len(), &mut pass.seat, t, outcome);
         write_all(words, writes, &mut pass.seat, t, outcome);
         let finish = finish_stamp::<Brand>(words, &mut pass.seat, t, begin);
         put_run(&mut pass.runs, t, pass.number, begin, finish);
-        let row = self.rows.as_slice()[t].as_slice();
         count_all(words, row, &mut pass.seat, &mut pass.duty, t, made);
     }
 
@@ -139,9 +175,11 @@ impl Board {
     {
         let size = pass.duty.as_slice().len();
         let duty = Vec::from_elem(alloc, false, size)?;
-        let tried = Vec::from_elem(alloc, false, size)?;
-        let begins = Vec::from_elem(alloc, 0u64, size)?;
-        let runs = Vec::from_elem(alloc, None, size)?;
+        let Marks {
+            tried,
+            begins,
+            runs,
+        } = no_marks(alloc, size)?;
         let about = Snapshot::of(&self.about);
         let seat = self.table.shared.split_seat::<Another>(&mut pass.seat);
         let number = pass.passes;
@@ -239,7 +277,7 @@ impl Board {
             own,
             rows: _,
             mut outcomes,
-            mut trace,
+            trace,
         } = self;
         let Pass {
             seat,
@@ -260,8 +298,7 @@ impl Board {
             &mut outcomes,
         );
         closed.free();
-        let count = gather(&mut trace, runs.as_slice());
-        shorten(&mut trace, count);
+        let trace = spans_of(trace, runs.as_slice());
         Ran { outcomes, trace }
     }
 }

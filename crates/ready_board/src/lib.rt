@@ -2,11 +2,8 @@
 #![tactic(auto)]
 
 mod board;
-mod closing;
 mod opening;
 mod pass;
-mod reading;
-mod values;
 
 pub use board::Board;
 pub use board_work::{Made, Own, Plan, Ran, Span, Spans, Take, Work};

@@ -1,13 +1,15 @@
 //! A pass: what one worker of the board knows and has in hand.
-ghost use Rattle.ready_board.specs.Seen.{run_at};
-ghost use Rattle.std.specs.Prelude.{◌≡◌, ◌≢◌, ◌==◌, ◌||◌, ◌<◌, ℕ, false, Some, None, is_some, length, slice_index, slice_index_or, if◌then◌else◌};
+ghost use Rattle.board_words.specs.Runs.{run_at};
+ghost use Rattle.std.specs.Prelude.{◌≡◌, ◌≢◌, ◌==◌, ◌||◌, ◌<◌, ℕ, false, Some, None, is_some, length, replicate, slice_index, slice_index_or, IfOk, if◌then◌else◌};
 
 use atomic_table::Seat;
 use board_core::View;
 use board_steps::About;
 use board_work::Span;
+use std::alloc::Global;
 use std::marker::Model;
 use std::snapshot::Snapshot;
+use txn_types::OutOfMemory;
 
 /// What one worker knows. Its lists have a place for each position, so that no call of a pass takes memory.
 #[derive(Drop)]
@@ -29,7 +31,8 @@ impl Model for Pass {
     ghost use Rattle.board_core.specs.Passes.{Fits, IsSettled};
     ghost use Rattle.board_work.specs.Scripts.{script};
     ghost use Rattle.board_steps.specs.Abouts.{told};
-    ghost use Rattle.ready_board.specs.Seen.{Seen, seen, run_at};
+    ghost use Rattle.board_words.specs.Runs.{run_at};
+    ghost use Rattle.ready_board.specs.Seen.{Seen, seen};
     ghost use Rattle.std.specs.Coded.{codes};
     // a table holds statements, which hold themselves
     ghost use Rattle.txn_core.specs.contracts.syntax.Stmt as e;
@@ -63,6 +66,29 @@ impl Pass {
     {
         self.begins[t] - 1
     }
+}
+
+/// The marks, the begins and the runs of a pass that has done nothing.
+#[derive(Drop)]
+pub(crate) struct Marks {
+    pub(crate) tried: Vec<bool>,
+    pub(crate) begins: Vec<u64>,
+    pub(crate) runs: Vec<Option<Span>>,
+}
+
+pub(crate) fn no_marks(alloc: Global, size: usize) -> Result<Marks, OutOfMemory>
+    ensures tried { IfOk result (λ b. b.tried.items ≡ replicate size false) }
+    ensures begins { IfOk result (λ b. b.begins.items ≡ replicate size 0) }
+    ensures runs { IfOk result (λ b. b.runs.items ≡ replicate size None) }
+{
+    let tried = Vec::from_elem(alloc, false, size)?;
+    let begins = Vec::from_elem(alloc, 0u64, size)?;
+    let runs = Vec::from_elem(alloc, None, size)?;
+    Ok(Marks {
+        tried,
+        begins,
+        runs,
+    })
 }
 
 // Sets each flag that is set in the other list.

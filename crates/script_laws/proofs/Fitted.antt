@@ -17,7 +17,8 @@ use Rattle.txn_core.proofs.TableLemmas.{op_well_formed}
 use Rattle.txn_core.proofs.StateLemmas.{fit_length, fit_entry}
 use Rattle.board_defs.specs.Closure.{IsLawfulPlan}
 use Rattle.board_work.specs.Scripts.{apply_known, outcome_at, state_before}
-use Rattle.script_laws.proofs.States.{after_nothing, after_known-push, length_upto, comes_at, outcome_is}
+use Rattle.script_laws.proofs.States.{after_nothing, after_known-push, comes_at, outcome_is}
+use Rattle.trace_laws.proofs.Plans.{length_closure}
 
 module _ (plan : Plan) (h : IsLawfulPlan plan) where
   -- what runs in a state fits
@@ -44,7 +45,7 @@ module _ (plan : Plan) (h : IsLawfulPlan plan) where
   pub state_ok : (t : ℕ) → t ≤ length plan.txns → IsState (state_before plan t)
   state_ok zero l = subst IsState (sym (after_nothing plan.base plan.txns)) h.base
   state_ok (suc t) l =
-      let is = state_ok t (omega arith) in let len = length_upto plan t in
+      let is = state_ok t (omega arith) in let len = length_closure plan t in
       let step = after_known-push plan.base plan.txns (closure_upto plan t) (comes_at plan t) (omega arith) ∙ ap (λ k. apply_known (state_before plan t) (txn_at plan.txns k) (comes_at plan t)) len in
       subst IsState (sym step) (stays (state_before plan t) (txn_at plan.txns t) (comes_at plan t) is (comes_fits t (omega arith) is))
 

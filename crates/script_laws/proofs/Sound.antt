@@ -4,7 +4,7 @@ use Rattle.std.specs.Prelude.{is_some, nat_lt}
 use mathlib.Core.Logic.{dite}
 use native.Mathlib.Decide.{ℕ_discrete, dec_lt}
 use Rattle.std.specs.List.{AllByRecursion}
-use Rattle.std.proofs.lemmas.List.{get_or-take}
+use Rattle.std.proofs.lemmas.List.{get_or-take, length-take-le}
 use Rattle.std.proofs.lemmas.Bool.{false≢true, ltb-true, lt-ltb, eqb-true, and_parts, and_from, or_cases, cases_Bool}
 use Rattle.txn_types.specs.declared.txn.Kind.{Kind}
 use Rattle.txn_types.specs.declared.txn.Outcome.{Outcome}
@@ -19,7 +19,8 @@ use Rattle.board_core.specs.Script.{IsSound, Runs}
 use Rattle.board_core.specs.Traces.{one_if}
 use Rattle.script_laws.specs.Laws.{IsFullPlan}
 use Rattle.board_work.specs.Scripts.{AreHeld, reads_at, writes_at, outcome_at, is_edge, given, gives, later, waits, uses_at, script}
-use Rattle.script_laws.proofs.States.{length_upto, at_earlier, outcome_is}
+use Rattle.script_laws.proofs.States.{at_earlier, outcome_is}
+use Rattle.trace_laws.proofs.Plans.{length_closure}
 
 -- LISTS
 
@@ -191,7 +192,7 @@ module _ (plan : Plan) (h : IsFullPlan plan) where
 
   runs_where : (t : ℕ) → is_own plan t ≡ true → ((s : ℕ) → 0 < one_if (waits plan s t) → Runs (script plan) s) → Runs (script plan) t
   runs_where t own each =
-      let l = own_below t own in let u = h.lawful.own_unknown t own in let len = length_upto plan t in
+      let l = own_below t own in let u = h.lawful.own_unknown t own in let len = length_closure plan t in
       let k = knows_from plan.table.kind (txn_at plan.txns t) plan.txns (closure_upto plan t) (λ s a b d. subst (λ o. is_some o ≡ true) (sym (at_earlier plan t s (omega arith) (omega arith)))
       (⊎_elim (λ known. subst (λ o. is_some o ≡ true) (sym (known_is s known)) known)
       (λ unknown. (and_parts (is_own plan s) (is_some (outcome_at plan s)) (each s (edge_of s t own (none_or (known_at plan s) unknown) (and_from (nat_lt s t) (depends plan.table.kind (txn_at plan.txns s) (txn_at plan.txns t)) (lt-ltb s t (omega arith)) d)))).1)
@@ -201,7 +202,7 @@ module _ (plan : Plan) (h : IsFullPlan plan) where
   runs_only : (t : ℕ) → Runs (script plan) t → (is_own plan t ≡ true) × ((s : ℕ) → 0 < one_if (waits plan s t) → Runs (script plan) s)
   runs_only t runs =
       let p = and_parts (is_own plan t) (is_some (outcome_at plan t)) runs in
-      let l = own_below t p.0 in let u = h.lawful.own_unknown t p.0 in let len = length_upto plan t in
+      let l = own_below t p.0 in let u = h.lawful.own_unknown t p.0 in let len = length_closure plan t in
       let k = (and_parts (is_own plan t) (knows_all plan.table.kind (txn_at plan.txns t) plan.txns (closure_upto plan t)) (has_run t l u p.1)).1 in (
         p.0,
         λ s pos. let e = edge_is s t pos in let lt = e.2 in
@@ -239,16 +240,11 @@ module _ (plan : Plan) (h : IsFullPlan plan) where
   known_closed t s e known =
       let c = and_parts (nat_lt t s) (depends plan.table.kind (txn_at plan.txns t) (txn_at plan.txns s)) e in
       let l = ltb-true t s c.0 in let below = known_below s known in let len = h.lawful.known_long in
-      let a = length_take s plan.known (omega arith) in
+      let a = length-take-le s plan.known (omega arith) in
       let is = some_is_some (known_at plan s) known in
       let k = knows_at plan.table.kind (txn_at plan.txns s) plan.txns (take s plan.known) t (h.lawful.known_closed s is.0 is.1) (omega arith) (omega arith) c.1 in
       subst (λ o. is_some o ≡ true) (get_or-take s plan.known t None l) k
     where
-      length_take : {A : Type 0} (n : ℕ) (xs : List A) → n ≤ length xs → length (take n xs) ≡ n
-      length_take zero xs l = refl
-      length_take (suc n) [] l = absurd (omega arith)
-      length_take (suc n) (x ∷ xs) l = ap suc (length_take n xs (omega arith))
-
       some_is_some : (o : Option Outcome) → is_some o ≡ true → (x : Outcome) × (o ≡ Some x)
       some_is_some (Some x) e = (x, refl)
       some_is_some None e = absurd (false≢true e)

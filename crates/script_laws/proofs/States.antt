@@ -1,9 +1,6 @@
 -- States after the outcomes of positions, read at one record.
 use Rattle.std.proofs.Common.{◌≡◌, ℕ, zero, suc, Bool, true, false, cond, ◌==◌, ◌+◌, ◌<◌, ◌≤◌, List, [], ◌∷◌, ◌++◌, length, take, get_or, sym, refl, ap, ◌∙◌, arith, Option, Some, None}
-use mathlib.Core.Logic.{dite}
-use native.Mathlib.Decide.{ℕ_discrete}
-use Rattle.std.proofs.lemmas.List.{length-append, take_more, get_or_append_left}
-use Rattle.std.proofs.Math.Seq.{get_or-append_seam}
+use Rattle.std.proofs.lemmas.List.{take_more, length-take-le}
 use Rattle.txn_types.specs.declared.txn.Outcome.{Outcome}
 use Rattle.txn_types.specs.declared.txn.Outcome.TheVariants.{Abort, Commit}
 use Rattle.txn_types.specs.declared.txn.Txn.{Txn}
@@ -12,6 +9,7 @@ use Rattle.oxii_defs.specs.Outcomes.{apply, put_all}
 use Rattle.oxii_defs.proofs.States.{value_in-put}
 use Rattle.known_defs.specs.Known.{txn_at, after_known}
 use Rattle.board_defs.specs.Closure.{Plan, known_at, comes_to, closure_upto}
+use Rattle.trace_laws.proofs.Plans.{closure_at, length_closure}
 use Rattle.board_core.specs.Script.{or_else, value_at, serial_value}
 use Rattle.board_work.specs.Scripts.{apply_known, later, given, gives, outcome_at, writes_at, state_before, script}
 
@@ -54,45 +52,30 @@ pub value_after : (s : State) (ts : List Txn) (os : List (Option Outcome)) (m r 
     value_in (after_known s ts (take m os)) r ≡ value_at (value_in s) (λ t q. gives (get_or os t None) (txn_at ts t).writes q) m r
 value_after s ts os zero r a b = ap (λ (u : State). value_in u r) (after_nothing s ts)
 value_after s ts os (suc m) r a b =
-    let len : length (take m os) ≡ m = length_take m os (omega arith) in
+    let len : length (take m os) ≡ m = length-take-le m os (omega arith) in
     let step : after_known s ts (take (suc m) os) ≡ apply_known (after_known s ts (take m os)) (txn_at ts m) (get_or os m None) =
     ap (after_known s ts) (ap (λ k. take k os) {x = suc m} {y = m + 1} (omega arith) ∙ take_more os m None (omega arith))
     ∙ (after_known-push s ts (take m os) (get_or os m None) (omega arith) ∙ ap (λ k. apply_known (after_known s ts (take m os)) (txn_at ts k) (get_or os m None)) len) in
     ap (λ (u : State). value_in u r) step
     ∙ (value_apply (after_known s ts (take m os)) (txn_at ts m) (get_or os m None) r
     ∙ ap (or_else (gives (get_or os m None) (txn_at ts m).writes r)) (value_after s ts os m r (omega arith) (omega arith)))
-  where
-    length_take : (n : ℕ) (xs : List (Option Outcome)) → n ≤ length xs → length (take n xs) ≡ n
-    length_take zero xs l = refl
-    length_take (suc n) [] l = absurd (omega arith)
-    length_take (suc n) (x ∷ xs) l = ap suc (length_take n xs (omega arith))
 
 -- THE CLOSURE, position by position
 
 abbrev pub comes_at : Plan → ℕ → Option Outcome
 comes_at plan t = comes_to plan t (known_at plan t) (closure_upto plan t)
 
-pub length_upto : (plan : Plan) (m : ℕ) → length (closure_upto plan m) ≡ m
-length_upto plan zero = refl
-length_upto plan (suc m) = let a = length-append (closure_upto plan m) (comes_at plan m ∷ []) in let b = length_upto plan m in omega arith
-
-pub at_upto : (plan : Plan) (m t : ℕ) → t < m → get_or (closure_upto plan m) t None ≡ comes_at plan t
-at_upto plan zero t l = absurd (omega arith)
-at_upto plan (suc m) t l = let len = length_upto plan m in dite (ℕ_discrete t m)
-    (λ e. ap (λ k. get_or (closure_upto plan (suc m)) k None) (e ∙ sym len) ∙ (get_or-append_seam (closure_upto plan m) (comes_at plan m) [] None ∙ ap (comes_at plan) (sym e)))
-    (λ ne. get_or_append_left (closure_upto plan m) (comes_at plan m ∷ []) None t (omega arith) ∙ at_upto plan m t (omega arith))
-
 pub outcome_is : (plan : Plan) (t : ℕ) → t < length plan.txns → outcome_at plan t ≡ comes_at plan t
-outcome_is plan t l = at_upto plan (length plan.txns) t l
+outcome_is plan t l = closure_at plan (length plan.txns) t l
 
 pub at_earlier : (plan : Plan) (m t : ℕ) → t < m → m ≤ length plan.txns → get_or (closure_upto plan m) t None ≡ outcome_at plan t
-at_earlier plan m t l le = at_upto plan m t l ∙ sym (outcome_is plan t (omega arith))
+at_earlier plan m t l le = closure_at plan m t l ∙ sym (outcome_is plan t (omega arith))
 
 -- the value of a record in the state in which t runs is the serial one
 pub serial_is : (plan : Plan) (t r : ℕ) → t ≤ length plan.txns → value_in (state_before plan t) r ≡ serial_value (script plan) t r
 serial_is plan zero r l = ap (λ (u : State). value_in u r) (after_nothing plan.base plan.txns)
 serial_is plan (suc t) r l =
-    let len = length_upto plan t in
+    let len = length_closure plan t in
     ap (λ (u : State). value_in u r) (after_known-push plan.base plan.txns (closure_upto plan t) (comes_at plan t) (omega arith) ∙ ap (λ k. apply_known (state_before plan t) (txn_at plan.txns k) (comes_at plan t)) len)
     ∙ (value_apply (state_before plan t) (txn_at plan.txns t) (comes_at plan t) r
     ∙ (ap (λ o. or_else (gives o (writes_at plan t) r) (value_in (state_before plan t) r)) (sym (outcome_is plan t (omega arith)))

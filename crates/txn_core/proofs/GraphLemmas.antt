@@ -1,5 +1,5 @@
 -- Dependency and the graph, step by step.
-use Rattle.std.proofs.Common.{◌≡◌, ◌<◌, ◌≤◌, ◌+◌, ◌++◌, ℕ, zero, suc, Bool, true, false, cond, List, [], ◌∷◌, length, take, drop, get_or, refl, ap, subst, ◌==◌, ◌||◌, add-one, arith, length-append}
+use Rattle.std.proofs.Common.{◌≡◌, ◌<◌, ◌≤◌, ◌+◌, ◌++◌, ℕ, zero, suc, Bool, true, false, cond, List, [], ◌∷◌, length, take, drop, get_or, refl, ap, subst, add-one, arith, length-append}
 use Rattle.std.specs.List.{list_any, AllByRecursion, slice_index_or}
 use Rattle.std.proofs.lemmas.List.Elements.{All-from_recursion}
 use Rattle.txn_types.specs.Rising.{IsRising}
@@ -10,13 +10,9 @@ use Rattle.txn_types.specs.declared.txn.Txn.{Txn}
 use Rattle.oxii_defs.specs.State.{contains}
 use Rattle.oxii_defs.specs.Dependency.{meets, depends, preds_from, graph_after, graph_of}
 
-contains_any : (x : ℕ) (ys : List ℕ) → contains ys x ≡ list_any (λ y. x == y) ys
-contains_any x [] = refl
-contains_any x (y ∷ ys) = ap (λ b. (x == y) || b) (contains_any x ys)
-
-pub meets_any : (xs ys : List ℕ) → meets xs ys ≡ list_any (λ x. list_any (λ y. x == y) ys) xs
+pub meets_any : (xs ys : List ℕ) → meets xs ys ≡ list_any (λ x. contains ys x) xs
 meets_any [] ys = refl
-meets_any (x ∷ xs) ys = rw (contains_any x ys, meets_any xs ys)
+meets_any (x ∷ xs) ys = rw (meets_any xs ys)
 
 -- the place i is named, or not
 pub preds_more : (kind : Kind) (t : Txn) (xs : List Txn) (i : ℕ) (d : Txn) → i < length xs →

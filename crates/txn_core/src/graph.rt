@@ -3,6 +3,7 @@
 ghost use Rattle.std.specs.Prelude.{◌≡◌, ◌≢◌, ◌==◌, ◌<◌, ◌≤◌, ◌↔◌, ℕ, List, [], length, take, drop, IsTrue, IsNone, IfSome, IfOk};
 ghost use Rattle.std.specs.List.{All, list_any, slice_index_or};
 ghost use Rattle.txn_types.specs.Rising.{IsRising};
+ghost use Rattle.oxii_defs.specs.State.{contains};
 ghost use Rattle.oxii_defs.specs.Dependency.{meets, depends, preds_from, graph_of};
 
 use std::alloc::Global;
@@ -75,6 +76,14 @@ impl Graph {
         self.lists.as_slice()[t as usize].as_slice()
     }
 
+    /// Whether position `t` depends on position `s`.
+    pub fn has_pred(&self, t: u16, s: u16) -> bool
+        requires { t < length self.now.preds }
+        ensures pred { result ≡ contains (slice_index_or self.now.preds t []) s }
+    {
+        stands_in(s, self.preds(t))
+    }
+
     /// A copy of the lists, as a NEWBLOCK carries them.
     pub fn lists(&self, alloc: Global) -> Result<Preds, OutOfMemory>
         ensures { IfOk result (λ lists. lists ≡ self.now.preds) }
@@ -114,15 +123,18 @@ fn have_common(xs: &Recs, ys: &Recs) -> bool
 }
 
 fn meet(xs: &[u16], ys: &[u16]) -> bool
-    ensures { result ≡ list_any (λ x. list_any (λ y. x == y) ys.now) xs.now }
+    ensures { result ≡ list_any (λ x. contains ys.now x) xs.now }
 {
     xs.iter().any(|x| stands_in(*x, ys))
 }
 
 fn stands_in(x: u16, ys: &[u16]) -> bool
-    ensures { result ≡ list_any (λ y. x == y) ys.now }
+    ensures { result ≡ contains ys.now x }
 {
-    ys.iter().any(|y| x == *y)
+    let [first, rest @ ..] = ys else {
+        return false;
+    };
+    x == *first || stands_in(x, rest)
 }
 
 // Whether these are the graph's lists.

@@ -9,8 +9,6 @@ mod message;
 mod name;
 mod rising;
 mod stream;
-#[cfg(test)]
-mod tests;
 mod txn;
 mod values;
 

@@ -5,7 +5,8 @@ use Rattle.txn_types.specs.Fitting.{is_fit}
 use Rattle.txn_types.specs.declared.txn.Outcome.{Outcome}
 use Rattle.txn_types.specs.declared.txn.Txn.{Txn}
 use Rattle.txn_types.specs.contracts.txn.OutcomePartialEq.TheImpl as outcome_impl
-use Rattle.node_defs.specs.Same.{same_outcome, has}
+use Rattle.node_defs.specs.Same.{same_outcome}
+use Rattle.oxii_defs.specs.State.{contains}
 use Rattle.node_defs.specs.Counting.{first_to_reach}
 use Rattle.node_defs.proofs.SameLemmas.{outcome_eq}
 use Rattle.counting_laws.specs.Contents.{contents}
@@ -16,13 +17,13 @@ use Rattle.vote_book.specs.Puts.{Cast, BookStandsFor, agreed_on, cast_on, reache
 
 -- a fitting vote of an agent on position t of block n
 abbrev pub is_counted : ℕ → ℕ → List ℕ → Txn → Ballot → Bool
-is_counted n t agents txn b = (is_on n t b && has agents b.voter) && is_fit txn b.outcome
+is_counted n t agents txn b = (is_on n t b && contains agents b.voter) && is_fit txn b.outcome
 
 reached_is : (n t : ℕ) (agents : List ℕ) (tau : ℕ) (txn : Txn) (ballots : List Ballot) →
     first_to_reach (outcome_impl.ghosts).eq tau (contents (λ b. b.outcome) (is_counted n t agents txn) ballots) ≡ reached_by agents tau txn (kept_on n t ballots)
 reached_is n t agents tau txn ballots =
     let vote : Ballot → ℕ × Outcome = λ b. (b.voter, b.outcome) in
-    let agent : ℕ × Outcome → Bool = λ v. has agents v.0 in
+    let agent : ℕ × Outcome → Bool = λ v. contains agents v.0 in
     let counted = contents (λ (b : Ballot). b.outcome) (is_counted n t agents txn) ballots in
     sym (ap (λ (vs : List (ℕ × Outcome)). first_to_reach same_outcome tau (filter (is_fit txn) (map (λ v. v.1) vs))) (filter-contents vote (is_on n t) agent ballots)
     ∙ (ap (λ os. first_to_reach same_outcome tau (filter (is_fit txn) os)) (map-contents vote (λ v. v.1) (λ b. is_on n t b && agent (vote b)) ballots)

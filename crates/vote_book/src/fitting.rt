@@ -2,17 +2,27 @@
 
 ghost use Rattle.std.specs.Prelude.{◌≡◌, ◌&&◌};
 ghost use Rattle.txn_types.specs.Fitting.{is_fit};
-ghost use Rattle.node_defs.specs.Same.{has};
+ghost use Rattle.oxii_defs.specs.State.{contains};
 ghost use Rattle.vote_book.specs.Ballots.{is_on};
 
 use crate::ballot::Ballot;
 use counting_laws::Tally;
 use txn_types::{Outcome, PeerSet, Txn};
 
-pub fn has_peer(peers: &PeerSet, peer: u8) -> bool
-    ensures { result ≡ has peers.now peer }
+fn stands_in(peer: u8, peers: &[u8]) -> bool
+    ensures { result ≡ contains peers.now peer }
 {
-    peers.as_slice().iter().any(|p| *p == peer)
+    let [first, rest @ ..] = peers else {
+        return false;
+    };
+    peer == *first || stands_in(peer, rest)
+}
+
+/// Whether `peer` is one of `peers`.
+pub fn has_peer(peers: &PeerSet, peer: u8) -> bool
+    ensures { result ≡ contains peers.now peer }
+{
+    stands_in(peer, peers.as_slice())
 }
 
 /// The fitting votes of agents on position `t` of block `n`.
@@ -29,7 +39,7 @@ impl<'a> Tally for FittingVotes<'a> {
 
     type Content = Outcome;
 
-    ghost counts = { λ votes b. (is_on votes.n votes.t b && has votes.agents.now b.voter) && is_fit votes.txn.now b.outcome };
+    ghost counts = { λ votes b. (is_on votes.n votes.t b && contains votes.agents.now b.voter) && is_fit votes.txn.now b.outcome };
 
     ghost content = { λ b. b.outcome };
 

@@ -7,3 +7,4 @@ mod fitting;
 
 pub use ballot::VotePut;
 pub use book::Book;
+pub use fitting::has_peer;

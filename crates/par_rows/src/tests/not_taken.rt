@@ -2,7 +2,7 @@
 
 use super::*;
 
-// So far a run has kind full, one orderer, one peer, one application, nobody faulty, one `all` and no configuration; `graph` takes every document.
+// So far a run has kind full, whatever else it has; `graph` takes every document.
 #[test]
 fn not_yet(rt: HostRuntime) -> Result<(), Fail> {
     let text = TRANSFER.replace(rt.alloc(), "\"", "'")?;
@@ -16,14 +16,14 @@ fn not_yet(rt: HostRuntime) -> Result<(), Fail> {
 
 const NOT_YET: &str = "'full' -> 'full' => accepted
 'full' -> 'raw' => not yet
-'o1' -> 'o1','o2' => not yet
-'peers':['p1'] -> 'peers':['p1','p2'] => not yet
-'apps':[ -> 'apps':[{'name':'k','agents':['p1'],'tau':1,'clients':[],'contract':'op f(){}'}, => not yet
-'faulty':[ -> 'faulty':['p1' => not yet
-'faulty':[ -> 'faulty':['o1' => not yet
-{'do':'all'} -> nothing => not yet
-{'do':'all'} -> {'do':'all'},{'do':'all'} => not yet
-{'do':'all'} -> {'do':'deliver','msg':1,'to':'p1'} => not yet
-'stream':[ -> 'stream':[{'config':'bank','agents':['p1'],'tau':1}, => not yet
+'o1' -> 'o1','o2' => accepted
+'peers':['p1'] -> 'peers':['p1','p2'] => accepted
+'apps':[ -> 'apps':[{'name':'k','agents':['p1'],'tau':1,'clients':[],'contract':'op f(){}'}, => accepted
+'faulty':[ -> 'faulty':['p1' => accepted
+'faulty':[ -> 'faulty':['o1' => accepted
+{'do':'all'} -> nothing => accepted
+{'do':'all'} -> {'do':'all'},{'do':'all'} => accepted
+{'do':'all'} -> {'do':'deliver','msg':1,'to':'p1'} => accepted
+'stream':[ -> 'stream':[{'config':'bank','agents':['p1'],'tau':1}, => accepted
 'kind':'full' -> 'kind':'raw','zz':1 => field zz
 'faulty':[ -> 'faulty':['p1','p1' => double faulty[1]";

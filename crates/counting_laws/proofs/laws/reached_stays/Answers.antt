@@ -1,4 +1,4 @@
-use Rattle.counting_laws.proofs.Reaching.{reached_stays}
+use Rattle.node_defs.proofs.CountingLemmas.{reached_stays}
 use Rattle.counting_laws.proofs.laws.reached_stays.Goals as goal
 
 pub returns : goal.returns

@@ -1,7 +1,10 @@
 use Rattle.std.proofs.Common.{subst, sym}
 use Rattle.input_doc.proofs.Once.{exactly_one}
 use Rattle.par_top.specs.declared.command.Command.{Command}
+use Rattle.par_top.specs.declared.command.Command.TheVariants.{Run}
 use Rattle.par_top.specs.Commands.{Takes}
+use Rattle.par_top.specs.Top.{IsHeadline}
+use Rattle.par_top.proofs.SerialHeadlines.{serial_headline}
 use Rattle.par_top.proofs.Complete.{is_answered, is_other, is_faulty, is_long}
 use Rattle.par_top.proofs.WordLemmas.{one_command}
 use Rattle.par_top.proofs.top.run.Goals as goal
@@ -27,3 +30,7 @@ pub returns-in-Some-clause-too_long : goal.returns-in-Some-clause-too_long
 returns-in-Some-clause-too_long g c command bytes says told long read =
     is_long c.in-Some.command c.run_command.result _ _ _ _ bytes _ _ told long read
     c.run_command.ensures.ok c.run_command.ensures.not_usage c.run_command.ensures.refused (λ e. (c.run_command.ensures.read_fault e).rose) c.run_command.ensures.part
+
+pub returns-in-Some-clause-serial : goal.returns-in-Some-clause-serial
+returns-in-Some-clause-serial g c ok says =
+    serial_headline _ _ _ _ (subst (λ (k : Command). IsHeadline k (g.S.Source.rest c.args.source.now) (g.S.Source.rest c.run_command.new.source) (g.K.Sink.written c.args.sink.now) (g.K.Sink.written c.run_command.new.sink)) (sym (one_command _ Run c.in-Some.command says c.in-Some.ensures)) (c.run_command.ensures.ok ok))

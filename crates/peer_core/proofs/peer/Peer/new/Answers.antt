@@ -8,7 +8,7 @@ use Rattle.node_defs.specs.World.{count_from}
 use Rattle.vote_book.specs.Puts as casts
 use Rattle.hash_ledger.specs.declared.entry.Entry.{Entry}
 use Rattle.peer_parts.specs.declared.force.Seats.{Seats}
-use Rattle.peer_core.specs.Relation.{StandsFor}
+use Rattle.peer_turns.specs.Relation.{StandsFor}
 use Rattle.peer_core.proofs.Starting.{started}
 use Rattle.peer_core.proofs.peer.Peer.new.Goals as goal
 

@@ -1,7 +1,7 @@
 use Rattle.std.proofs.Common.{◌≡◌, ◌<◌, ℕ, List, Option, None, ap, sym, subst, ◌∙◌, arith, length, get_or, cond, min}
 use Rattle.std.specs.Prelude.{is_some}
 use Rattle.board_work.specs.declared.plan.Span.{Span}
-use Rattle.ready_board.specs.Seen.{run_at}
+use Rattle.board_words.specs.Runs.{run_at}
 use Rattle.ready_board.proofs.PassFacts.{runs_either}
 use Rattle.board_defs.specs.Closure.{Plan}
 use Rattle.board_core.specs.declared.view.View.{View}

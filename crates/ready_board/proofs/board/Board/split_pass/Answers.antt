@@ -4,8 +4,8 @@ use Rattle.board_defs.specs.Closure.{Plan}
 use Rattle.board_core.specs.declared.view.View.{View}
 use Rattle.board_core.specs.Passes.{Fits, IsSettled}
 use Rattle.board_core.specs.Steps.{newcomer}
-use Rattle.ready_board.specs.Seen.{run_at}
-use Rattle.ready_board.proofs.Opens.{new_pass, fresh_settled}
+use Rattle.board_words.specs.Runs.{run_at}
+use Rattle.ready_board.proofs.Fresh.{new_pass, fresh_settled}
 use Rattle.board_steps.specs.Abouts.{told}
 use Rattle.board_work.specs.Scripts.{script}
 use Rattle.board_core.proofs.Bases.{splits}
@@ -24,11 +24,11 @@ invariant_of-result c =
     let e : c.split_seat-seat.result.me.0 ≡ newcomer p.seat.me.0.passes = ap (λ m. m.0) made in
     let plans : told c.of-about.result.value ≡ told p.about.value = ap told c.of-about.ensures ∙ (ap told c.self.invariant.0 ∙ (ap (λ z. told z.about) c.self.view_is ∙ (sym c.requires.of.plan ∙ ap (λ z. told z.about) (sym c.pass.view_is)))) in
     let d = c.in_ok-duty.ensures.items_if_clones_equal (search rules) in
-    let t = c.in_ok-tried.ensures.items_if_clones_equal (search rules) in
-    let b = c.in_ok-begins.ensures.items_if_clones_equal (search rules) in
-    let r = c.in_ok-runs.ensures.items_if_clones_equal (search rules) in (
-      subst (λ (w : View). Fits w c.in_ok-duty.duty.items c.in_ok-tried.tried.items c.in_ok-begins.begins.items (run_at c.in_ok-runs.runs.items)) (sym e)
-          (new_pass p.seat.me.0.passes (length c.as_slice-size.result.now) c.in_ok-duty.duty.items c.in_ok-tried.tried.items c.in_ok-begins.begins.items c.in_ok-runs.runs.items d t b r),
+    let t = c.in_ok-tried.ensures.tried in
+    let b = c.in_ok-tried.ensures.begins in
+    let r = c.in_ok-tried.ensures.runs in (
+      subst (λ (w : View). Fits w c.in_ok-duty.duty.items c.in_ok-tried.field-0.tried.items c.in_ok-tried.field-0.begins.items (run_at c.in_ok-tried.field-0.runs.items)) (sym e)
+          (new_pass p.seat.me.0.passes (length c.as_slice-size.result.now) c.in_ok-duty.duty.items c.in_ok-tried.field-0.tried.items c.in_ok-tried.field-0.begins.items c.in_ok-tried.field-0.runs.items d t b r),
       ap (λ m. m.1) made,
       ap length d ∙ (length-replicate _ _ ∙ (ap length c.as_slice-size.ensures.value ∙ ((c.pass.invariant.2 ∙ sym (ap (λ (z : Plan). length z.txns) plans))))),
       subst (IsSettled (script (told c.of-about.result.value))) (sym e) (fresh_settled (script (told c.of-about.result.value)) p.seat.me.0.passes 16 _ (λ x pos. absurd (omega arith))),

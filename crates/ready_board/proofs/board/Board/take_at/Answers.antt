@@ -7,7 +7,7 @@ use Rattle.board_core.specs.Passes.{Fits}
 use Rattle.board_core.proofs.PassFits.{fits_taken}
 use Rattle.board_steps.specs.Abouts.{told}
 use Rattle.board_work.specs.Scripts.{script}
-use Rattle.ready_board.specs.Seen.{run_at}
+use Rattle.board_words.specs.Runs.{run_at}
 use Rattle.ready_board.proofs.PassFacts.{settled_taken}
 use Rattle.script_laws.proofs.Sound.{own_below}
 use Rattle.ready_board.proofs.board.Board.take_at.Goals as goal

@@ -1,0 +1,4 @@
+//! Lists, copies, sources and sinks, with ample memory.
+
+mod io;
+mod types;

@@ -1,0 +1,5 @@
+use Rattle.std.proofs.Common.{◌≡◌, replicate, true}
+use Rattle.board_rows.proofs.tests.settings.all_own.Given as goal
+
+abbrev pub invariant-loop : goal.invariant-loop
+invariant-loop l = l.own ≡ replicate l.counter true

@@ -1,0 +1,5 @@
+//! Worked rows of boards.
+#![tactic(auto)]
+
+#[cfg(test)]
+mod tests;

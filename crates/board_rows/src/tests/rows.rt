@@ -1,0 +1,65 @@
+//! The rows on one thread, over any value that several workers run a plan on.
+
+ghost use Rattle.std.specs.Prelude.{◌≡◌, ◌<◌, ℕ, length, true};
+ghost use Rattle.board_defs.specs.Closure.{is_own};
+ghost use Rattle.board_work.specs.Plans.{IsRunnable, plan_of};
+
+use crate::tests::calls::{Want, misses, runs, takes};
+use crate::tests::task::Task;
+use board_work::{Plan, Ran, Work};
+use std::alloc::Global;
+use std::process::Abort;
+use txn_types::{Kind, OutOfMemory};
+
+/// Three positions in a chain, run by one of two passes.
+#[tactic(auto, using(crate::proofs::PassLemmas::two_passes))]
+pub fn relay<W: Work, T: Task>(
+    rt: &impl Abort,
+    alloc: Global,
+    plan: &Plan<'_>,
+    task: &T,
+    wanted: &[Want; 3],
+) -> Result<Ran, OutOfMemory>
+    requires runnable { IsRunnable plan.now }
+    requires task { T.plan task.now ≡ plan_of plan.now }
+    requires own { (t : ℕ) → t < length plan.now.block.now.txns → is_own (plan_of plan.now) t ≡ true }
+{
+    assert!(rt; plan.table.kind == Kind::Full);
+    assert_eq!(rt; plan.block.txns.len(), 3);
+    let (work, mut first) = W::plan(alloc, plan)?;
+    let mut second = work.split(alloc, &mut first)?;
+    takes(rt, &work, &mut first, 0);
+    assert_eq!(rt; misses(rt, &work, &mut second, 0), None);
+    assert_eq!(rt; misses(rt, &work, &mut second, 1), Some(1));
+    runs(rt, &work, task, &mut first, 0, &wanted[0]);
+    takes(rt, &work, &mut first, 1);
+    assert_eq!(rt; misses(rt, &work, &mut first, 2), Some(1));
+    runs(rt, &work, task, &mut first, 1, &wanted[1]);
+    takes(rt, &work, &mut first, 2);
+    runs(rt, &work, task, &mut first, 2, &wanted[2]);
+    let both = work.join(first, second);
+    assert!(rt; W::untried(&both).is_none());
+    Ok(work.close(both))
+}
+
+/// A position that writes what an earlier one reads.
+pub fn anti_dependency<W: Work, T: Task>(
+    rt: &impl Abort,
+    alloc: Global,
+    plan: &Plan<'_>,
+    task: &T,
+    wanted: &[Want; 2],
+) -> Result<(), OutOfMemory>
+    requires runnable { IsRunnable plan.now }
+    requires task { T.plan task.now ≡ plan_of plan.now }
+    requires own { (t : ℕ) → t < length plan.now.block.now.txns → is_own (plan_of plan.now) t ≡ true }
+{
+    assert!(rt; plan.table.kind == Kind::Full);
+    assert_eq!(rt; plan.block.txns.len(), 2);
+    let (work, mut first) = W::plan(alloc, plan)?;
+    let mut second = work.split(alloc, &mut first)?;
+    takes(rt, &work, &mut first, 0);
+    assert_eq!(rt; misses(rt, &work, &mut second, 1), Some(1));
+    runs(rt, &work, task, &mut first, 0, &wanted[0]);
+    Ok(())
+}

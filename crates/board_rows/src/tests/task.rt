@@ -1,0 +1,21 @@
+//! What the positions of a plan come to.
+
+ghost use Rattle.std.specs.Prelude.{◌≡◌, ◌<◌, ◌≤◌, ℕ, length, map, slice_index, take};
+ghost use Rattle.txn_types.specs.Values.{max_value};
+ghost use Rattle.oxii_defs.specs.State.{value_in};
+ghost use Rattle.board_defs.specs.Closure.{IsLawfulPlan, Plan};
+ghost use Rattle.board_work.specs.Scripts.{reads_at, state_before, meant_at};
+
+use txn_types::Outcome;
+
+/// The positions of a plan, run on what they read.
+pub trait Task {
+    ghost plan: { Self → Plan };
+
+    fn run(&self, t: u16, inputs: &[u64; 16]) -> Outcome
+        requires lawful { IsLawfulPlan (plan self.now) }
+        requires place { t < length (plan self.now).txns }
+        requires values { take (length (reads_at (plan self.now) t)) inputs.now ≡ map (value_in (state_before (plan self.now) t)) (reads_at (plan self.now) t) }
+        requires range { (k : ℕ) → k < length (reads_at (plan self.now) t) → slice_index inputs.now k ≤ max_value }
+        ensures { result ≡ meant_at (plan self.now) t };
+}

@@ -1,0 +1,4 @@
+pub mod Opens
+pub mod Filling
+pub mod Decode
+pub mod Gathered

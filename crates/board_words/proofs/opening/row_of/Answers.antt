@@ -1,0 +1,6 @@
+use Rattle.board_work.specs.Plans.{plan_of}
+use Rattle.board_words.proofs.Opens.{row_next}
+use Rattle.board_words.proofs.opening.row_of.Goals as goal
+
+pub loop-t-preserved : goal.loop-t-preserved
+loop-t-preserved c = row_next (plan_of c.args.plan.now) c.args.s c.loop-t.t c.loop-t.row c.add_where.new.row c.waits_for-waits.result c.waits_for-waits.ensures c.in_ok-add_where.ensures c.loop-t.invariant

@@ -1,0 +1,13 @@
+//! What the words of a board hold: filled from a plan at the start, read at the close.
+#![tactic(auto)]
+
+mod closing;
+mod opening;
+mod reading;
+mod room;
+mod values;
+
+pub use closing::spans_of;
+pub use opening::{Opening, opening_of};
+pub use reading::read_all;
+pub use room::{no_outcomes, no_spans, own_copy};

@@ -1,0 +1,5 @@
+//! Tables of what one peer answers to each message, and of what it holds behind them.
+#![tactic(auto)]
+
+#[cfg(test)]
+mod tests;

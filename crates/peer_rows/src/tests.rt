@@ -1,0 +1,10 @@
+//! What one peer answers to each message, and holds behind them, with ample memory.
+
+mod answers;
+mod documents;
+mod letters;
+mod lines;
+mod notes;
+mod readings;
+mod rows;
+mod setting;

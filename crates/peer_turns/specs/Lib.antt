@@ -1,0 +1,11 @@
+pub use Rattle.board_work.specs.Plans
+pub use Rattle.hash_ledger.specs.Ledgers
+pub use Rattle.hash_ledger.specs.Halts
+pub use Rattle.peer_laws.specs.Runs
+pub use Rattle.peer_laws.specs.Notes
+pub use Rattle.peer_work.specs.Openings
+pub use Rattle.peer_work.specs.Completing
+pub mod Peers
+pub mod Traces
+pub mod Answering
+pub mod Relation

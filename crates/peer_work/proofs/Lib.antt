@@ -1,0 +1,3 @@
+pub mod Openings
+pub mod Composing
+pub mod Finishing

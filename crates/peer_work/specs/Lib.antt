@@ -1,0 +1,4 @@
+pub use Rattle.board_work.specs.Plans
+pub use Rattle.hash_ledger.specs.Ledgers
+pub mod Openings
+pub mod Completing

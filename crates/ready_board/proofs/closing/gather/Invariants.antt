@@ -1,8 +1,0 @@
-use Rattle.std.proofs.Common.{◌≡◌, ◌≤◌, length, map, take}
-use Rattle.board_work.specs.Plans.{span_of}
-use Rattle.script_laws.specs.Placed.{placed}
-use Rattle.ready_board.specs.Seen.{run_at}
-use Rattle.ready_board.proofs.closing.gather.Given as goal
-
-abbrev pub invariant-loop-t : goal.invariant-loop-t
-invariant-loop-t l = (length l.trace ≡ length l.fn.trace) × (l.count ≤ l.t) × (map span_of (take l.count l.trace) ≡ placed (run_at l.runs) l.t)

@@ -1,6 +1,0 @@
-use Rattle.board_work.specs.Plans.{plan_of}
-use Rattle.ready_board.proofs.Opens.{row_next}
-use Rattle.ready_board.proofs.opening.row_of.Goals as goal
-
-pub loop-t-preserved : goal.loop-t-preserved
-loop-t-preserved c = row_next (plan_of c.args.plan.now) c.args.s c.loop-t.t c.loop-t.row c.add_where.new.row c.waits_for-waits.result c.waits_for-waits.ensures c.in_ok-add_where.ensures c.loop-t.invariant

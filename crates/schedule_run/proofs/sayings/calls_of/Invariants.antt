@@ -1,0 +1,9 @@
+use Rattle.std.proofs.Common.{◌≡◌, ◌++◌, drop}
+use Rattle.world_laws.specs.Sayings.{txns_named}
+use Rattle.schedule_run.proofs.sayings.calls_of.Given as goal
+
+abbrev pub invariant-loop-i : goal.invariant-loop-i
+invariant-loop-i l = record {
+  left : l.txns ++ txns_named l.pieces (drop l.i-index l.i-items) ≡ txns_named l.pieces l.items;
+  same : l.i-items ≡ l.items;
+}

@@ -1,0 +1,9 @@
+use Rattle.std.proofs.Common.{◌≡◌, drop}
+use Rattle.world_laws.specs.Sayings.{config_named}
+use Rattle.schedule_run.proofs.sayings.config_of.Given as goal
+
+abbrev pub invariant-loop-i : goal.invariant-loop-i
+invariant-loop-i l = record {
+  left : config_named l.pieces (drop l.i-index l.i-items) ≡ config_named l.pieces l.items;
+  same : l.i-items ≡ l.items;
+}

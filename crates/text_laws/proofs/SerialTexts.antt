@@ -1,0 +1,42 @@
+-- A text of a tame input is one of serial runs.
+use Rattle.std.specs.Prelude.{ℕ, ◌≡◌, ◌++◌, Bool, true, false, not, cond, if◌then◌else◌, List, [], ◌∷◌, filter, length, take}
+use Rattle.std.proofs.Common.{refl, ap, ◌∙◌}
+use Rattle.std.specs.List.{flat_map}
+use Rattle.txn_types.specs.declared.message.Node.TheVariants.{Peer}
+use Rattle.oxii_defs.specs.Chain.{chain}
+use Rattle.oxii_defs.specs.Lines.{serial_part, blocks_line, tail_lines}
+use Rattle.oxii_defs.proofs.Serially.{serial_parts}
+use Rattle.node_defs.specs.Cutting.{rejected_from}
+use Rattle.node_defs.specs.Text.{rejected_line, parts_of, part_of}
+use Rattle.node_defs.specs.World.{World, Setting, setting_of, is_faulty, log_of, count_from}
+use Rattle.node_laws.specs.Agreement.{completed_count}
+use Rattle.node_laws.proofs.SerialPart.{serial_part_law}
+use Rattle.text_laws.specs.SerialText.{TameTextsAreSerial}
+
+-- the parts of a world are those of the peers that aren't faulty
+parts_are : (s : Setting) (w : World) (part : ℕ → List ℕ) (peers : List ℕ) → ((p : ℕ) → part_of s p (log_of w p) ≡ part p) → parts_of s w peers ≡ flat_map part (filter (λ p. not (is_faulty s (Peer p))) peers)
+parts_are s w part [] each = refl
+parts_are s w part (p ∷ rest) each = one (is_faulty s (Peer p)) (parts_are s w part rest each)
+  where
+    one : (b : Bool) → parts_of s w rest ≡ flat_map part (filter (λ q. not (is_faulty s (Peer q))) rest) → (if b then [] else part_of s p (log_of w p)) ++ parts_of s w rest ≡ flat_map part (cond (not b) (p ∷ filter (λ q. not (is_faulty s (Peer q))) rest) (filter (λ q. not (is_faulty s (Peer q))) rest))
+    one true more = more
+    one false more = ap (λ xs. xs ++ parts_of s w rest) (each p) ∙ ap (λ xs. part p ++ xs) more
+
+pub tame_texts : TameTextsAreSerial
+tame_texts table genesis items limits faulty events lines tame said (bodies, agreed, (w, led, are)) =
+    let s = setting_of table genesis items bodies faulty in
+    let law = λ (p : ℕ). serial_part_law table genesis items bodies faulty events w p (tame bodies agreed) (said bodies) led in
+    let part : ℕ → List ℕ = λ p. serial_part table genesis p (take (completed_count s w p) (chain table bodies)) in (
+      (λ p. completed_count s w p),
+      record { bodies = bodies; agreed = agreed; world = w; led = led; counts = λ p. refl },
+      record {
+        bodies = bodies;
+        agreed = agreed;
+        few = λ p l h. (law p).0;
+        part = part;
+        serial = λ p l h. (serial_parts table genesis p (take (completed_count s w p) (chain table bodies)) (part p)).1 refl;
+        messages = length w.pool;
+        idle = w.idle;
+        are = are ∙ ap (λ xs. flat_map rejected_line (rejected_from table 0 items) ++ blocks_line (length (chain table bodies)) ++ xs ++ tail_lines (length w.pool) w.idle) (parts_are s w part (count_from 0 (length table.peers)) (λ p. (law p).1));
+      },
+    )

@@ -1,0 +1,3 @@
+pub use Rattle.node_defs.specs.Text
+pub mod SerialText
+pub mod AgreedCounts

@@ -1,0 +1,5 @@
+pub mod Deliveries
+pub mod Shown
+pub mod Starts
+pub mod Sayings
+pub mod Worlds
