@@ -22,15 +22,23 @@ pub fn text_of(alloc: Global, bytes: &[u8]) -> Result<String, Trouble> {
     Ok(String::from_str(alloc, str::from_utf8(bytes)?)?)
 }
 
-/// What a command makes of these bytes.
+/// Command words, which have one space between.
+fn words_of(alloc: Global, line: &str) -> Result<Vec<String>, Trouble> {
+    let mut words = Vec::new(alloc);
+    for word in line.split(" ") {
+        words.push(String::from_str(alloc, word)?)?;
+    }
+    Ok(words)
+}
+
+/// What the command of these words, which have one space between, makes of these bytes.
 pub fn answer<R: Threads + Sync>(
     rt: &R,
     alloc: Global,
-    command: &str,
+    line: &str,
     bytes: &[u8],
 ) -> Result<Said, Trouble> {
-    let mut words = Vec::new(alloc);
-    words.push(String::from_str(alloc, command)?)?;
+    let words = words_of(alloc, line)?;
     let mut source = MemSource::new(bytes, 65_536, &[]);
     let mut sink = MemSink::new(alloc, 65_536, 1_048_576, &[])?;
     let status = run(

@@ -1,6 +1,7 @@
 //! Tables of documents with what a command answers to them.
 //!
-//! A section is a line `== COMMAND TITLE`, a document, a line `--`, and what the command says of the document and then writes.
+//! A section is a line `== WORDS: TITLE`, a document, a line `--`, and what the command of the words says of the document and then writes.
+//! There may be several WORDS with `, ` between; each of them is answered so.
 //! What stands before the first section is no part of a table. In a document, `<N times PIECE>` stands as in rows.
 
 use crate::rows::expanded;
@@ -8,44 +9,53 @@ use crate::{Trouble, answer};
 use std::alloc::Global;
 use std::thread::Threads;
 
-// The command and the title of a section, its document, and what is answered to it.
-fn parts(section: &str) -> Option<(&str, &str, &str)> {
-    let (title, rest) = section.split_once("\n")?;
-    let (document, wanted) = rest.split_once("\n--\n")?;
-    Some((title, document, wanted))
+struct Section<'a> {
+    head: &'a str,
+    document: &'a str,
+    wanted: &'a str,
 }
 
-// What a command says and then writes.
+fn section_of(text: &str) -> Option<Section<'_>> {
+    let (head, rest) = text.split_once("\n")?;
+    let (document, wanted) = rest.split_once("\n--\n")?;
+    Some(Section {
+        head,
+        document,
+        wanted,
+    })
+}
+
+// What the command of these words says and then writes.
 fn answered<R: Threads + Sync>(
     rt: &R,
     alloc: Global,
-    title: &str,
+    words: &str,
     document: &str,
 ) -> Result<String, Trouble> {
-    let command = title.split_once(" ").map_or(title, |words| words.0);
     let document = expanded(alloc, document)?;
-    let said = answer(rt, alloc, command, document.as_bytes())?;
+    let said = answer(rt, alloc, words, document.as_bytes())?;
     Ok(format!(in alloc; "{}{}", said.line, said.text)?)
 }
 
-// The section with the answer, where that isn't the wanted one.
-fn wrong_section<R: Threads + Sync>(
-    rt: &R,
-    alloc: Global,
-    section: &str,
-) -> Result<String, Trouble> {
-    let Some((title, document, wanted)) = parts(section) else {
-        return Ok(format!(in alloc; "no section: {section}\n")?);
+// The section with the first answer that isn't the wanted one, if there is one.
+fn wrong_section<R: Threads + Sync>(rt: &R, alloc: Global, text: &str) -> Result<String, Trouble> {
+    let Some(section) = section_of(text) else {
+        return Ok(format!(in alloc; "no section: {text}\n")?);
     };
-    let text = answered(rt, alloc, title, document)?;
-    if text.as_str().strip_suffix("\n") == Some(wanted) {
-        Ok(String::new(alloc))
-    } else {
-        Ok(format!(in alloc; "{title}\n{text}")?)
+    let commands = section
+        .head
+        .split_once(": ")
+        .map_or(section.head, |parts| parts.0);
+    for words in commands.split(", ") {
+        let text = answered(rt, alloc, words, section.document)?;
+        if text.as_str().strip_suffix("\n") != Some(section.wanted) {
+            return Ok(format!(in alloc; "{}, by {words}\n{text}", section.head)?);
+        }
     }
+    Ok(String::new(alloc))
 }
 
-/// The sections that the command answers otherwise, each with its answer, and how many there are.
+/// The sections that their commands answer otherwise, each with its answer, and how many there are.
 pub fn wrong_texts<R: Threads + Sync>(
     rt: &R,
     alloc: Global,

@@ -20,15 +20,15 @@ fn rows_without_documents(rt: HostRuntime) -> Result<(), Fail> {
 // A section is no pass where it has another text, or none.
 #[test]
 fn sections_without_their_texts(rt: HostRuntime) -> Result<(), Fail> {
-    let right = "\n== graph the root\n[]\n--\nparblock: refused: field .\n";
+    let right = "\n== graph: the root\n[]\n--\nparblock: refused: field .\n";
     assert_eq!(rt;
         wrong_texts(&rt, rt.alloc(), right)?.as_str(),
         "sections 1\n"
     );
     for table in [
-        "\n== graph the root\n[]\n--\nparblock: refused: not json\n",
-        "\n== graph the root\n[]\n--\nparblock: refused: field .\n\n",
-        "\n== graph the root\n[]\n",
+        "\n== graph: the root\n[]\n--\nparblock: refused: not json\n",
+        "\n== graph: the root\n[]\n--\nparblock: refused: field .\n\n",
+        "\n== graph: the root\n[]\n",
     ] {
         let wrong = wrong_texts(&rt, rt.alloc(), table)?;
         assert_ne!(rt; wrong.as_str(), "sections 1\n", "{table}");
