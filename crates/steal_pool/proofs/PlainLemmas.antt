@@ -16,7 +16,8 @@ use Rattle.board_defs.specs.Trace.{plain_spans}
 use Rattle.board_work.specs.declared.plan.Span.{Span}
 use Rattle.board_work.specs.Plans.{span_of}
 use Rattle.trace_laws.proofs.Plans.{own_is, closes_law}
-use Rattle.steal_pool.specs.Plain.{AllFitAt, moved, with_span}
+use Rattle.steal_pool.specs.Fitting.{AllFitAt}
+use Rattle.steal_pool.specs.Plain.{moved, with_span}
 
 -- nothing is known at first
 pub after_none : (s : State) (ts : List Txn) → after_known s ts [] ≡ s

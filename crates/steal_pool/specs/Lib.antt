@@ -1,2 +1,3 @@
 pub use Rattle.board_work.specs.Plans
 pub mod Plain
+pub mod Fitting

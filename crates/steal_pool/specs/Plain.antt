@@ -1,11 +1,9 @@
 -- One position more of a run in block order.
-use Rattle.std.specs.Prelude.{ℕ, ◌≡◌, ◌+◌, ◌*◌, get_or, List, [], ◌∷◌, ◌++◌, length, Option, Some, None}
-use Rattle.txn_types.specs.Fitting.{Fits}
+use Rattle.std.specs.Prelude.{ℕ, ◌+◌, ◌*◌, List, [], ◌∷◌, ◌++◌, length, Option, Some, None}
 use Rattle.txn_types.specs.declared.txn.Outcome.{Outcome}
 use Rattle.txn_types.specs.declared.txn.Txn.{Txn}
 use Rattle.oxii_defs.specs.State.{State}
 use Rattle.oxii_defs.specs.Outcomes.{apply}
-use Rattle.known_defs.specs.Known.{txn_at}
 use Rattle.board_work.specs.declared.plan.Span.{Span}
 
 -- the state behind a position, where it comes to something
@@ -17,7 +15,3 @@ moved s t (Some o) = apply s t o
 abbrev pub with_span : List Span → ℕ → Option Outcome → List Span
 with_span spans t None = spans
 with_span spans t (Some o) = spans ++ record { t = t; worker = 0; begin = 2 * length spans; finish = 2 * length spans + 1 } ∷ []
-
--- each outcome fits its transaction
-abbrev pub AllFitAt : List Txn → List (Option Outcome) → Type 0
-AllFitAt txns outcomes = (t : ℕ) (o : Outcome) → get_or outcomes t None ≡ Some o → Fits (txn_at txns t) o

@@ -10,7 +10,8 @@ ghost use Rattle.board_defs.specs.Trace.{plain_spans};
 ghost use Rattle.txn_core.specs.MeantTable.{table_of};
 ghost use Rattle.txn_core.specs.States.{state_of};
 ghost use Rattle.board_work.specs.Plans.{IsRunnable, plan_of, span_of};
-ghost use Rattle.steal_pool.specs.Plain.{AllFitAt, moved, with_span};
+ghost use Rattle.steal_pool.specs.Fitting.{AllFitAt};
+ghost use Rattle.steal_pool.specs.Plain.{moved, with_span};
 
 use board_work::{Plan, Ran, Span, Spans};
 use dep_graph::knows_preds;

@@ -8,7 +8,7 @@ use Rattle.board_defs.specs.Closure.{known_at, comes_to, unless_known, run_outco
 use Rattle.board_defs.specs.Trace.{plain_spans}
 use Rattle.board_work.specs.Plans.{plan_of, span_of}
 use Rattle.txn_core.specs.States.{state_of}
-use Rattle.steal_pool.specs.Plain.{AllFitAt}
+use Rattle.steal_pool.specs.Fitting.{AllFitAt}
 use Rattle.steal_pool.proofs.PlainLemmas.{after_none, upto_more, none_fit, fit_more, length_run, closes}
 use Rattle.steal_pool.proofs.plain.burst_plain.Goals as goal
 

@@ -1,7 +1,7 @@
 use Rattle.std.proofs.Common.{◌≡◌, length}
 use Rattle.board_work.specs.Plans.{plan_of}
 use Rattle.txn_core.specs.States.{state_of}
-use Rattle.steal_pool.specs.Plain.{AllFitAt}
+use Rattle.steal_pool.specs.Fitting.{AllFitAt}
 use Rattle.steal_pool.proofs.PlainLemmas.{Upto}
 use Rattle.steal_pool.proofs.plain.burst_plain.Given as goal
 
