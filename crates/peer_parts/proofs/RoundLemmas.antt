@@ -21,7 +21,7 @@ use Rattle.node_laws.proofs.Order.{within_push}
 use Rattle.node_laws.proofs.Settle.{within_at}
 use Rattle.trace_laws.proofs.Plans.{length_closure, closure_at}
 use Rattle.trace_laws.proofs.Known.{closure_law, has_place}
-use Rattle.steal_pool.specs.Plain.{AllFitAt}
+use Rattle.steal_pool.specs.Fitting.{AllFitAt}
 use Rattle.steal_pool.proofs.PlainLemmas.{length_run}
 use Rattle.peer_parts.specs.Found.{given_by, found_by, IsKept, IsSound, HasGiven, unknown}
 use Rattle.peer_parts.specs.Ready.{is_ready, NoneReady, left_upto, left_of, round_plan}

@@ -14,7 +14,7 @@ use Rattle.txn_types.specs.declared.txn.Outcome.{Outcome}
 use Rattle.board_defs.specs.Closure.{IsKnownClosed, IsLawfulPlan}
 use Rattle.txn_core.specs.MeantTable.{table_of}
 use Rattle.txn_core.proofs.StateLemmas.{state_of-values}
-use Rattle.steal_pool.specs.Plain.{AllFitAt}
+use Rattle.steal_pool.specs.Fitting.{AllFitAt}
 use Rattle.peer_parts.specs.declared.rounds.Task.{Task}
 use Rattle.peer_parts.specs.Ready.{round_plan}
 use Rattle.peer_parts.specs.Tasks.{IsTask, frame_of}

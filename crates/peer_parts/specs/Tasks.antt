@@ -10,7 +10,7 @@ use Rattle.txn_core.specs.States.{state_of}
 use Rattle.txn_core.specs.Graphs.{IsGraphOf}
 use Rattle.board_work.specs.declared.plan.Span.{Span}
 use Rattle.board_work.specs.Plans.{span_of}
-use Rattle.steal_pool.specs.Plain.{AllFitAt}
+use Rattle.steal_pool.specs.Fitting.{AllFitAt}
 use Rattle.peer_parts.specs.declared.rounds.Task.{Task}
 use Rattle.peer_parts.specs.Found.{given_by, HasGiven}
 use Rattle.peer_parts.specs.Ready.{ran_between}

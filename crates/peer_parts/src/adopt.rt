@@ -2,7 +2,7 @@
 
 ghost use Rattle.std.specs.Prelude.{◌≡◌, ◌<◌, ◌≤◌, ℕ, true, length, get_or, None};
 ghost use Rattle.board_defs.specs.Closure.{IsKnownClosed, is_own};
-ghost use Rattle.steal_pool.specs.Plain.{AllFitAt};
+ghost use Rattle.steal_pool.specs.Fitting.{AllFitAt};
 ghost use Rattle.peer_parts.specs.Found.{IsKept, IsSound, offered, unknown};
 ghost use Rattle.peer_parts.specs.Tasks.{IsTask, HasOthers, frame_of};
 

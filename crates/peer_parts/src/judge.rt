@@ -10,7 +10,7 @@ ghost use Rattle.hash_ledger.specs.Halts.{halt_of};
 ghost use Rattle.vote_book.specs.Puts.{Cast, BookStandsFor, cast_on};
 ghost use Rattle.txn_types.specs.Fitting.{Fits};
 ghost use Rattle.peer_laws.specs.Turns.{agreed_in};
-ghost use Rattle.steal_pool.specs.Plain.{AllFitAt};
+ghost use Rattle.steal_pool.specs.Fitting.{AllFitAt};
 ghost use Rattle.peer_parts.specs.InForce.{IsForce};
 ghost use Rattle.peer_parts.specs.Judging.{AppsFit, AreAgreedBy, stand, stand_all};
 

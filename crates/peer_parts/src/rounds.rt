@@ -3,7 +3,7 @@
 ghost use Rattle.std.specs.Prelude.{◌≡◌, ◌<◌, ℕ, List, Option, true, false, length, IfOk, OnOk};
 ghost use Rattle.txn_types.specs.declared.txn.Outcome.{Outcome};
 ghost use Rattle.board_defs.specs.Closure.{IsKnownClosed};
-ghost use Rattle.steal_pool.specs.Plain.{AllFitAt};
+ghost use Rattle.steal_pool.specs.Fitting.{AllFitAt};
 ghost use Rattle.peer_parts.specs.Found.{IsKept, IsSound, found_by, unknown};
 ghost use Rattle.peer_parts.specs.Joining.{IsShort};
 ghost use Rattle.peer_parts.specs.Tasks.{HasAllGiven, IsTask, IsTraceOf, frame_of};

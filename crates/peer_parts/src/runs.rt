@@ -6,7 +6,7 @@ ghost use Rattle.txn_types.specs.declared.txn.Outcome.{Outcome};
 ghost use Rattle.board_defs.specs.Closure.{IsKnownClosed};
 ghost use Rattle.board_defs.specs.Trace.{IsLawfulTrace};
 ghost use Rattle.board_work.specs.Plans.{IsRunnable, plan_of, span_of};
-ghost use Rattle.steal_pool.specs.Plain.{AllFitAt};
+ghost use Rattle.steal_pool.specs.Fitting.{AllFitAt};
 ghost use Rattle.peer_parts.specs.Found.{IsKept, IsSound, unknown};
 ghost use Rattle.peer_parts.specs.Joining.{IsShort};
 ghost use Rattle.peer_parts.specs.Ready.{NoneReady, is_ready, left_of, round_plan};

@@ -16,7 +16,7 @@ use Rattle.txn_core.specs.States.{state_of}
 use Rattle.node_defs.specs.Ledger.{Halt, after_outcomes, first_halt, is_agreed}
 use Rattle.hash_ledger.specs.declared.entry.Entry.{Entry}
 use Rattle.hash_ledger.specs.Ledgers.{AreHashed, IsLawfulEntry}
-use Rattle.steal_pool.specs.Plain.{AllFitAt}
+use Rattle.steal_pool.specs.Fitting.{AllFitAt}
 use Rattle.peer_parts.specs.declared.force.Seats.{Seats}
 use Rattle.peer_parts.specs.Judging.{stand_all}
 use Rattle.hash_ledger.specs.Halts.{halt_of}

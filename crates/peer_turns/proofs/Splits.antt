@@ -17,7 +17,7 @@ use Rattle.known_defs.specs.Known.{no_txn}
 use Rattle.txn_core.proofs.StateLemmas.{fit_length}
 use Rattle.node_defs.specs.Ledger.{Halt, differs, first_halt, halt_at}
 use Rattle.hash_ledger.specs.Halts.{IsLawfulSplit, IsWhole, halt_of}
-use Rattle.steal_pool.specs.Plain.{AllFitAt}
+use Rattle.steal_pool.specs.Fitting.{AllFitAt}
 use Rattle.peer_parts.specs.Judging.{stand, stand_all}
 
 -- records of the table, and both outcomes are theirs

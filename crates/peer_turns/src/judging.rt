@@ -2,7 +2,7 @@
 
 ghost use Rattle.std.specs.Prelude.{◌≡◌, ◌+◌, true, length, None, IfOk, OnOk};
 ghost use Rattle.txn_core.specs.MeantTable.{table_of};
-ghost use Rattle.steal_pool.specs.Plain.{AllFitAt};
+ghost use Rattle.steal_pool.specs.Fitting.{AllFitAt};
 ghost use Rattle.peer_work.specs.Openings.{IsWellOpened};
 ghost use Rattle.peer_turns.specs.Peers.{IsWellKept, Judged, peer_of};
 

@@ -11,7 +11,7 @@ use Rattle.oxii_defs.specs.Outcomes.{apply}
 use Rattle.oxii_defs.specs.Table.{Table, IsRecord, IsLawfulTxn}
 use Rattle.node_defs.specs.Ledger.{after_outcomes}
 use Rattle.hash_ledger.specs.Ledgers.{AllFit}
-use Rattle.steal_pool.specs.Plain.{AllFitAt}
+use Rattle.steal_pool.specs.Fitting.{AllFitAt}
 use Rattle.peer_work.specs.Completing.{AreLawful, outcomes_in}
 
 pub after_next : (s : State) (txns : List Txn) (outcomes : List Outcome) (t : ℕ) (d : Txn) (o : Outcome) → t < length txns → t < length outcomes → after_outcomes s (drop t txns) (drop t outcomes) ≡ after_outcomes (apply s (get_or txns t d) (get_or outcomes t o)) (drop (t + 1) txns) (drop (t + 1) outcomes)

@@ -15,7 +15,7 @@ use Rattle.txn_core.specs.Graphs.{Shape, IsGraphOf}
 use Rattle.hash_ledger.specs.declared.entry.Entry.{Entry}
 use Rattle.hash_ledger.specs.Ledgers.{tip_of}
 use Rattle.board_defs.specs.Closure.{IsKnownClosed}
-use Rattle.steal_pool.specs.Plain.{AllFitAt}
+use Rattle.steal_pool.specs.Fitting.{AllFitAt}
 use Rattle.peer_work.specs.declared.opened.Opened.{Opened}
 use Rattle.peer_work.specs.Openings.{IsWellOpened, IsFresh}
 

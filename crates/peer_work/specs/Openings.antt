@@ -18,7 +18,7 @@ use Rattle.board_defs.specs.Closure.{IsKnownClosed}
 use Rattle.board_defs.specs.Trace.{IsLawfulTrace}
 use Rattle.board_work.specs.declared.plan.Span.{Span}
 use Rattle.board_work.specs.Plans.{span_of}
-use Rattle.steal_pool.specs.Plain.{AllFitAt}
+use Rattle.steal_pool.specs.Fitting.{AllFitAt}
 use Rattle.peer_parts.specs.Ready.{ran_between}
 use Rattle.peer_work.specs.declared.opened.Opened.{Opened}
 

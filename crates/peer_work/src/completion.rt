@@ -9,7 +9,7 @@ ghost use Rattle.txn_core.specs.States.{state_of};
 ghost use Rattle.known_defs.specs.Known.{no_outcome};
 ghost use Rattle.node_defs.specs.Ledger.{after_outcomes};
 ghost use Rattle.hash_ledger.specs.Ledgers.{AllFit, tip_of};
-ghost use Rattle.steal_pool.specs.Plain.{AllFitAt};
+ghost use Rattle.steal_pool.specs.Fitting.{AllFitAt};
 ghost use Rattle.peer_work.specs.Completing.{AreLawful, IsBringable, forced_by, outcomes_in};
 
 use hash_ledger::Ledger;

@@ -9,7 +9,7 @@ ghost use Rattle.txn_core.specs.States.{state_of};
 ghost use Rattle.node_defs.specs.Rules.{rules_of, in_force_behind};
 ghost use Rattle.vote_book.specs.Puts.{Cast, BookStandsFor};
 ghost use Rattle.board_defs.specs.Closure.{IsKnownClosed};
-ghost use Rattle.steal_pool.specs.Plain.{AllFitAt};
+ghost use Rattle.steal_pool.specs.Fitting.{AllFitAt};
 ghost use Rattle.peer_parts.specs.Owning.{IsOwn};
 ghost use Rattle.peer_parts.specs.InForce.{IsForce};
 ghost use Rattle.peer_work.specs.Openings.{IsFound, IsFoundAs, IsTraced, IsWhole, WorkDone};

@@ -1,2 +1,5 @@
 pub use Rattle.board_work.specs.Plans
-pub mod Plain
+pub mod Fitting
+pub mod Hints
+pub mod Passes
+pub mod Tasks

@@ -3,7 +3,7 @@ use Rattle.txn_types.specs.declared.txn.Outcome.{Outcome}
 use Rattle.txn_types.specs.Fitting.{Fits}
 use Rattle.known_defs.specs.Known.{txn_at}
 use Rattle.board_defs.specs.Closure.{IsKnownClosed}
-use Rattle.steal_pool.specs.Plain.{AllFitAt}
+use Rattle.steal_pool.specs.Fitting.{AllFitAt}
 use Rattle.peer_parts.specs.Found.{IsSound, HasGiven, unknown, learned, offered}
 use Rattle.peer_parts.specs.Tasks.{frame_of}
 use Rattle.peer_parts.proofs.LearnLemmas.{learned_long, learned_few, learned_either, learned_keeps}

@@ -1,6 +1,6 @@
 use Rattle.std.proofs.Common.{◌≡◌, ◌≤◌, ℕ, true, None, length, get_or}
 use Rattle.board_defs.specs.Closure.{IsKnownClosed, is_own}
-use Rattle.steal_pool.specs.Plain.{AllFitAt}
+use Rattle.steal_pool.specs.Fitting.{AllFitAt}
 use Rattle.peer_parts.specs.Found.{IsKept, IsSound, HasGiven, unknown}
 use Rattle.peer_parts.specs.Tasks.{frame_of}
 use Rattle.peer_parts.proofs.AdoptLemmas.{is_other}

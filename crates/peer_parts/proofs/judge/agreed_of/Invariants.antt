@@ -2,7 +2,7 @@ use Rattle.std.proofs.Common.{◌≡◌, ◌<◌, ℕ, List, None, length, get_o
 use Rattle.known_defs.specs.Known.{txn_at}
 use Rattle.node_defs.specs.Rules.{Rules}
 use Rattle.vote_book.specs.Puts.{Cast, BookStandsFor, cast_on}
-use Rattle.steal_pool.specs.Plain.{AllFitAt}
+use Rattle.steal_pool.specs.Fitting.{AllFitAt}
 use Rattle.peer_laws.specs.Turns.{agreed_in}
 use Rattle.peer_parts.specs.InForce.{IsForce}
 use Rattle.peer_parts.proofs.judge.agreed_of.Given as goal

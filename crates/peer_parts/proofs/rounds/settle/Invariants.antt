@@ -1,6 +1,6 @@
 use Rattle.std.proofs.Common.{◌≡◌, ◌<◌, ℕ, length}
 use Rattle.board_defs.specs.Closure.{IsKnownClosed}
-use Rattle.steal_pool.specs.Plain.{AllFitAt}
+use Rattle.steal_pool.specs.Fitting.{AllFitAt}
 use Rattle.peer_parts.specs.Found.{IsKept, IsSound, unknown}
 use Rattle.peer_parts.specs.Tasks.{IsTraceOf, frame_of}
 use Rattle.peer_parts.proofs.rounds.settle.Given as goal
