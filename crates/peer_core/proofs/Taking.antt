@@ -1,5 +1,5 @@
 -- A message is taken.
-use Rattle.std.specs.Prelude.{ℕ, ◌<◌, ◌≡◌, true, false, cond, List, [], ◌∷◌, length, Option, Some, None, is_some, refl}
+use Rattle.std.specs.Prelude.{ℕ, ◌≡◌, true, false, cond, List, [], ◌∷◌, length, Option, Some, None, is_some, refl}
 use Rattle.std.specs.Option.{option_map}
 use Rattle.std.proofs.Common.{sym, ◌∙◌, ap, subst}
 use Rattle.std.proofs.lemmas.Bool.{true≢false}
@@ -34,16 +34,16 @@ some_of : (x : Option Split) → is_some (option_map halt_of x) ≡ is_some x
 some_of None = refl
 some_of (Some y) = refl
 
--- what `take` makes of a peer that stands for L
-pub record TookOf (p q : KeptPeer) (genesis : State) (from : Node) (m : Message) (L : Log) (note : Note) (commits : List Commit) (spans : List BlockSpans) : Type 0 where
+-- what `take` with so many workers makes of a peer that stands for L
+pub record TookOf (workers : ℕ) (p q : KeptPeer) (genesis : State) (from : Node) (m : Message) (L : Log) (note : Note) (commits : List Commit) (spans : List BlockSpans) : Type 0 where
   pub stands : relation.StandsFor q genesis (letter_from from m ∷ L)
   pub noted : note ≡ note_of (rules_for p genesis) p.me (letter_from from m) L
   pub sent_is : commits ≡ sent (rules_for p genesis) p.me (letter_from from m ∷ L)
-  pub traced : (workers : ℕ) → 0 < workers → AreTraced p.table.kind workers (runs (rules_for p genesis) p.me (letter_from from m ∷ L)) spans
+  pub traced : AreTraced p.table.kind workers (runs (rules_for p genesis) p.me (letter_from from m ∷ L)) spans
 
 -- a halted peer takes nothing more
-pub took_none : (p : KeptPeer) (genesis : State) (from : Node) (m : Message) (L : Log) → is_some p.halted ≡ true → relation.StandsFor p genesis L → TookOf p p genesis from m L Halted [] []
-took_none p genesis from m L h s =
+pub took_none : (workers : ℕ) (p : KeptPeer) (genesis : State) (from : Node) (m : Message) (L : Log) → is_some p.halted ≡ true → relation.StandsFor p genesis L → TookOf workers p p genesis from m L Halted [] []
+took_none workers p genesis from m L h s =
     let rules = rules_for p genesis in
     let e = letter_from from m in
     let halted : is_split rules p.me (heard rules p.me L) ≡ true = ap is_some (sym s.halted_is) ∙ (some_of p.halted ∙ h) in
@@ -52,14 +52,14 @@ took_none p genesis from m L h s =
       stands = subst (StandsOn p genesis) (sym d.0) s;
       noted = sym (ap (λ b. cond b Halted (note_from rules p.me L from m)) (ap (is_split rules p.me) d.0 ∙ halted));
       sent_is = sym d.1;
-      traced = λ workers some. subst (λ xs. AreTraced p.table.kind workers xs []) (sym (ap (λ b. cond {A = List BlockRuns} b [] (runs_upto rules p.me (length (e ∷ L)) e L)) halted)) tt;
+      traced = subst (λ xs. AreTraced p.table.kind workers xs []) (sym (ap (λ b. cond {A = List BlockRuns} b [] (runs_upto rules p.me (length (e ∷ L)) e L)) halted)) tt;
     }
 
 -- the calls of `take` on the desk of a peer that isn't halted give what it makes of it
-took_one : (table : Table) (old heard2 made : Desk) (genesis : State) (from : Node) (m : Message) (L : Log) (note : Note) (commits : List Commit) (spans : List BlockSpans) → is_some old.halted ≡ false → HearsOf (letter_from from m) (peer_of table old) (peer_of table heard2) → NotesOf from m (peer_of table old) note
-    → ((genesis : State) (me m : ℕ) (e : Letter) (K : Log) → MidwayAt genesis me m e K (peer_of table heard2) [] [] → EndedAt genesis me e K (peer_of table made) commits spans)
-    → relation.StandsFor (peer_of table old) genesis L → TookOf (peer_of table old) (peer_of table made) genesis from m L (cond (is_some made.halted) Halted note) commits spans
-took_one table old heard2 made genesis from m L note commits spans h hear notes turns s = record {
+took_one : (workers : ℕ) (table : Table) (old heard2 made : Desk) (genesis : State) (from : Node) (m : Message) (L : Log) (note : Note) (commits : List Commit) (spans : List BlockSpans) → is_some old.halted ≡ false → HearsOf (letter_from from m) (peer_of table old) (peer_of table heard2) → NotesOf from m (peer_of table old) note
+    → ((genesis : State) (me m : ℕ) (e : Letter) (K : Log) → MidwayAt workers genesis me m e K (peer_of table heard2) [] [] → EndedAt workers genesis me e K (peer_of table made) commits spans)
+    → relation.StandsFor (peer_of table old) genesis L → TookOf workers (peer_of table old) (peer_of table made) genesis from m L (cond (is_some made.halted) Halted note) commits spans
+took_one workers table old heard2 made genesis from m L note commits spans h hear notes turns s = record {
   stands = subst (StandsOn r genesis) (sym there) (record {
     voter = ap (contains (voters_of p)) end.me_is ∙ s.voter;
     state_is = end.state_is;
@@ -92,8 +92,8 @@ took_one table old heard2 made genesis from m L note commits spans h hear notes 
     s2 : StandsOn p genesis L
     s2 = subst (StandsOn p genesis) (hears rules old.me L calm) s
 
-    end : EndedAt genesis old.me e L r commits spans
-    end = turns genesis old.me (length (ledger rules old.me L)) e L (hear genesis L (none_of old.halted h) s2)
+    end : EndedAt workers genesis old.me e L r commits spans
+    end = turns genesis old.me (length (ledger rules old.me L)) e L (hear workers genesis L (none_of old.halted h) s2)
 
     all : heard rules old.me (e ∷ L) ≡ e ∷ L
     all = hears_more rules old.me e L calm
@@ -105,11 +105,11 @@ took_one table old heard2 made genesis from m L note commits spans h hear notes 
     me P x = subst P (sym end.me_is) x
 
 -- so with the peer as it is seen, and turns that begin with nothing made
-pub taken : (p : KeptPeer) (table : Table) (old heard2 made : Desk) (genesis : State) (from : Node) (m : Message) (L : Log) (note : Note) (sent0 commits : List Commit) (spans0 spans : List BlockSpans) → peer_of table old ≡ p → is_some old.halted ≡ false
+pub taken : (workers : ℕ) (p : KeptPeer) (table : Table) (old heard2 made : Desk) (genesis : State) (from : Node) (m : Message) (L : Log) (note : Note) (sent0 commits : List Commit) (spans0 spans : List BlockSpans) → peer_of table old ≡ p → is_some old.halted ≡ false
     → HearsOf (letter_from from m) (peer_of table old) (peer_of table heard2) → NotesOf from m (peer_of table old) note → sent0 ≡ [] → spans0 ≡ []
-    → ((genesis : State) (me m : ℕ) (e : Letter) (K : Log) → MidwayAt genesis me m e K (peer_of table heard2) sent0 spans0 → EndedAt genesis me e K (peer_of table made) commits spans)
-    → relation.StandsFor p genesis L → TookOf p (peer_of table made) genesis from m L (cond (is_some made.halted) Halted note) commits spans
-taken p table old heard2 made genesis from m L note sent0 commits spans0 spans is h hear notes a b turns =
-    subst (λ (k : KeptPeer). relation.StandsFor k genesis L → TookOf k (peer_of table made) genesis from m L (cond (is_some made.halted) Halted note) commits spans) is
-    (took_one table old heard2 made genesis from m L note commits spans h hear notes
-    (λ gen me n e K at. turns gen me n e K (subst (λ xs. MidwayAt gen me n e K (peer_of table heard2) xs spans0) (sym a) (subst (λ xs. MidwayAt gen me n e K (peer_of table heard2) [] xs) (sym b) at))))
+    → ((genesis : State) (me m : ℕ) (e : Letter) (K : Log) → MidwayAt workers genesis me m e K (peer_of table heard2) sent0 spans0 → EndedAt workers genesis me e K (peer_of table made) commits spans)
+    → relation.StandsFor p genesis L → TookOf workers p (peer_of table made) genesis from m L (cond (is_some made.halted) Halted note) commits spans
+taken workers p table old heard2 made genesis from m L note sent0 commits spans0 spans is h hear notes a b turns =
+    subst (λ (k : KeptPeer). relation.StandsFor k genesis L → TookOf workers k (peer_of table made) genesis from m L (cond (is_some made.halted) Halted note) commits spans) is
+    (took_one workers table old heard2 made genesis from m L note commits spans h hear notes
+    (λ gen me n e K at. turns gen me n e K (subst (λ xs. MidwayAt workers gen me n e K (peer_of table heard2) xs spans0) (sym a) (subst (λ xs. MidwayAt workers gen me n e K (peer_of table heard2) [] xs) (sym b) at))))

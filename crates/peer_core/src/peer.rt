@@ -2,6 +2,7 @@
 
 ghost use Rattle.std.specs.Prelude.{◌∷◌, ◌≡◌, ◌<◌, ◌≤◌, [], true, length, is_some, if◌then◌else◌, IfOk, IfSome};
 ghost use Rattle.std.specs.List.{All};
+ghost use Rattle.txn_types.specs.declared.txn.Kind.TheVariants.{Full};
 ghost use Rattle.oxii_defs.specs.Lawful.{IsLawfulTable};
 ghost use Rattle.oxii_defs.specs.State.{State};
 ghost use Rattle.txn_core.specs.MeantTable.{table_of};
@@ -66,6 +67,7 @@ impl<'t> Peer<'t> {
         genesis: &Values,
     ) -> Result<Peer<'t>, OutOfMemory>
         requires lawful { IsLawfulTable (table_of table.now) }
+        requires full { table.now.kind ≡ Full }
         requires me { me < length table.now.peers }
         requires genesis { length genesis.now ≡ length table.now.records }
         ensures table { IfOk result (λ r. r.table ≡ table.now) }
@@ -106,25 +108,25 @@ impl<'t> Peer<'t> {
         }
     }
 
-    /// Takes one more message. After OutOfMemory the peer is gone.
+    /// Takes one more message, with so many workers. After OutOfMemory the peer is gone.
     pub fn take<R: Threads + Sync, G: Gate>(
         self,
-        _rt: &R,
+        rt: &R,
         alloc: Global,
         from: Node,
         message: &Message,
-        _workers: u8,
+        workers: u8,
         gate: &G,
     ) -> Result<(Peer<'t>, Took), OutOfMemory>
         requires lawful { IsLawfulMessage (table_of self.table) message.now }
-        requires workers { (1 ≤ _workers) × (_workers ≤ 16) }
+        requires workers { (1 ≤ workers) × (workers ≤ 16) }
         ensures table { IfOk result (λ r. r.0.table ≡ self.entry.table) }
         ensures me { IfOk result (λ r. r.0.me ≡ self.entry.me) }
         ensures halted { is_some self.entry.halted ≡ true → IfOk result (λ r. (r.0 ≡ self.entry) × (r.1.note ≡ Halted)) }
         ensures stands { IfOk result (λ r. (genesis : State) (L : Log) → StandsFor self.entry genesis L → StandsFor r.0 genesis (letter_from from message.now ∷ L)) }
         ensures note { IfOk result (λ r. (genesis : State) (L : Log) → StandsFor self.entry genesis L → r.1.note ≡ note_of (rules_for self.entry genesis) self.entry.me (letter_from from message.now) L) }
         ensures sent { IfOk result (λ r. (genesis : State) (L : Log) → StandsFor self.entry genesis L → r.1.sent ≡ sent (rules_for self.entry genesis) self.entry.me (letter_from from message.now ∷ L)) }
-        ensures spans { IfOk result (λ r. (genesis : State) (L : Log) → StandsFor self.entry genesis L → AreTraced self.entry.table.kind _workers (runs (rules_for self.entry genesis) self.entry.me (letter_from from message.now ∷ L)) r.1.spans) }
+        ensures spans { IfOk result (λ r. (genesis : State) (L : Log) → StandsFor self.entry genesis L → AreTraced self.entry.table.kind workers (runs (rules_for self.entry genesis) self.entry.me (letter_from from message.now ∷ L)) r.1.spans) }
     {
         let mut sent = Commits::new(alloc);
         let mut spans = BlockSpansList::new(alloc);
@@ -134,7 +136,9 @@ impl<'t> Peer<'t> {
         }
         let Peer { table, mut desk } = self;
         let heard = hear(alloc, table, &mut desk, from, message)?;
-        turns(alloc, table, &mut desk, &mut sent, &mut spans, gate)?;
+        turns(
+            rt, alloc, table, &mut desk, &mut sent, &mut spans, workers, gate,
+        )?;
         let peer = Peer { table, desk };
         let note = peer.note_behind(heard);
         Ok((peer, Took { note, sent, spans }))

@@ -1,6 +1,6 @@
 //! All that a block's runs and votes give, in rounds.
 
-ghost use Rattle.std.specs.Prelude.{◌≡◌, ◌<◌, ℕ, List, Option, true, false, length, IfOk, OnOk};
+ghost use Rattle.std.specs.Prelude.{◌≡◌, ◌<◌, ◌≤◌, List, Option, true, false, length, IfOk, OnOk};
 ghost use Rattle.txn_types.specs.declared.txn.Outcome.{Outcome};
 ghost use Rattle.board_defs.specs.Closure.{IsKnownClosed};
 ghost use Rattle.steal_pool.specs.Fitting.{AllFitAt};
@@ -12,6 +12,7 @@ use crate::adopt::adopt;
 use crate::runs::run_ready;
 use board_work::{Own, Spans};
 use std::alloc::Global;
+use std::thread::Threads;
 use steal_pool::Gate;
 use txn_core::{Graph, Table};
 use txn_types::{Block, Known, OutOfMemory, Values};
@@ -35,13 +36,16 @@ pub struct Settled {
 }
 
 /// One round: what others' votes offer, and a burst. Says whether anything ran.
-fn round<G: Gate>(
+fn round<R: Threads + Sync, G: Gate>(
+    rt: &R,
     alloc: Global,
     task: &Task,
     known: &mut Known,
     spans: &mut Spans,
+    workers: u8,
     gate: &G,
 ) -> Result<bool, OutOfMemory>
+    requires workers { (1 ≤ workers) × (workers ≤ 16) }
     requires task { IsTask task.now }
     requires long { length known.old ≡ length task.now.block.now.txns }
     requires fit { AllFitAt task.now.block.now.txns known.old }
@@ -54,20 +58,23 @@ fn round<G: Gate>(
     ensures sound { OnOk result (IsSound (frame_of task.now) task.now.agreed.now known.old → IsSound (frame_of task.now) task.now.agreed.now known.new) }
     ensures few { IfOk result (λ more. more ≡ true → unknown known.new < unknown known.old) }
     ensures all { IfOk result (λ more. more ≡ false → IsSound (frame_of task.now) task.now.agreed.now known.old → HasAllGiven task.now known.new) }
-    ensures trace { OnOk result ((workers : ℕ) (begun : List (Option Outcome)) → 0 < workers → IsKept begun known.old → IsTraceOf task.now workers begun known.old spans.old → IsTraceOf task.now workers begun known.new spans.new) }
+    ensures trace { OnOk result ((begun : List (Option Outcome)) → IsKept begun known.old → IsTraceOf task.now workers begun known.old spans.old → IsTraceOf task.now workers begun known.new spans.new) }
 {
     adopt(task, known);
-    let more = run_ready(alloc, task, known, spans, gate)?;
+    let more = run_ready(rt, alloc, task, known, spans, workers, gate)?;
     Ok(more)
 }
 
-/// All that runs and votes give.
-pub fn settle<G: Gate>(
+/// All that runs and votes give, each round run with so many workers.
+pub fn settle<R: Threads + Sync, G: Gate>(
+    rt: &R,
     alloc: Global,
     task: &Task,
     mut known: Known,
+    workers: u8,
     gate: &G,
 ) -> Result<Settled, OutOfMemory>
+    requires workers { (1 ≤ workers) × (workers ≤ 16) }
     requires task { IsTask task.now }
     requires long { length known ≡ length task.now.block.now.txns }
     requires fit { AllFitAt task.now.block.now.txns known }
@@ -76,9 +83,9 @@ pub fn settle<G: Gate>(
     ensures found { IsSound (frame_of task.now) task.now.agreed.now known → IfOk result (λ r. r.known ≡ found_by (frame_of task.now) task.now.agreed.now (length task.now.block.now.txns)) }
     ensures fit { IfOk result (λ r. AllFitAt task.now.block.now.txns r.known) }
     ensures closed { IfOk result (λ r. IsKnownClosed task.now.table.now.kind task.now.block.now.txns r.known) }
-    ensures trace { IfOk result (λ r. (workers : ℕ) → 0 < workers → IsTraceOf task.now workers known r.known r.spans) }
+    ensures trace { IfOk result (λ r. IsTraceOf task.now workers known r.known r.spans) }
 {
     let mut spans = Spans::new(alloc);
-    while round(alloc, task, &mut known, &mut spans, gate)? {}
+    while round(rt, alloc, task, &mut known, &mut spans, workers, gate)? {}
     Ok(Settled { known, spans })
 }

@@ -3,7 +3,8 @@
 ghost use Rattle.std.specs.Prelude.{◌≡◌, ◌<◌, ◌≤◌, ◌&&◌, not, is_some, ℕ, List, Option, true, false, length, get_or, map, None, IfOk, OnOk, MatchOption};
 ghost use Rattle.std.specs.Option.{option_or};
 ghost use Rattle.txn_types.specs.declared.txn.Outcome.{Outcome};
-ghost use Rattle.board_defs.specs.Closure.{IsKnownClosed};
+ghost use Rattle.txn_types.specs.declared.txn.Kind.TheVariants.{Full};
+ghost use Rattle.board_defs.specs.Closure.{IsClosed, IsKnownClosed};
 ghost use Rattle.board_defs.specs.Trace.{IsLawfulTrace};
 ghost use Rattle.board_work.specs.Plans.{IsRunnable, plan_of, span_of};
 ghost use Rattle.steal_pool.specs.Fitting.{AllFitAt};
@@ -18,6 +19,7 @@ use crate::rounds::Task;
 use board_work::{Own, Plan, Ran, Spans};
 use dep_graph::knows_preds;
 use std::alloc::Global;
+use std::thread::Threads;
 use steal_pool::{Gate, burst_plain};
 use txn_types::{Known, OutOfMemory, Outcome};
 
@@ -78,14 +80,35 @@ fn merge(known: &mut Known, ran: &Known)
     }
 }
 
+/// Runs a plan of kind full with so many workers.
+fn run_plan<R: Threads + Sync, G: Gate>(
+    rt: &R,
+    alloc: Global,
+    plan: &Plan,
+    workers: u8,
+    gate: &G,
+) -> Result<Ran, OutOfMemory>
+    requires runnable { IsRunnable plan.now }
+    requires full { plan.now.table.now.kind ≡ Full }
+    requires workers { (1 ≤ workers) × (workers ≤ 16) }
+    ensures closed { IfOk result (λ ran. IsClosed (plan_of plan.now) workers ran.outcomes (map span_of ran.trace)) }
+    ensures fit { IfOk result (λ ran. AllFitAt plan.now.block.now.txns ran.outcomes) }
+{
+    let ran = burst_plain(alloc, plan, gate)?;
+    Ok(ran)
+}
+
 /// Runs what is ready, and what becomes ready by that. Says whether anything was.
-pub fn run_ready<G: Gate>(
+pub fn run_ready<R: Threads + Sync, G: Gate>(
+    rt: &R,
     alloc: Global,
     task: &Task,
     known: &mut Known,
     spans: &mut Spans,
+    workers: u8,
     gate: &G,
 ) -> Result<bool, OutOfMemory>
+    requires workers { (1 ≤ workers) × (workers ≤ 16) }
     requires task { IsTask task.now }
     requires long { length known.old ≡ length task.now.block.now.txns }
     requires fit { AllFitAt task.now.block.now.txns known.old }
@@ -98,7 +121,7 @@ pub fn run_ready<G: Gate>(
     ensures sound { OnOk result (IsSound (frame_of task.now) task.now.agreed.now known.old → IsSound (frame_of task.now) task.now.agreed.now known.new) }
     ensures few { IfOk result (λ more. more ≡ true → unknown known.new < unknown known.old) }
     ensures none { IfOk result (λ more. more ≡ false → (known.new ≡ known.old) × NoneReady (frame_of task.now) known.old (length task.now.block.now.txns)) }
-    ensures trace { OnOk result ((workers : ℕ) (begun : List (Option Outcome)) → 0 < workers → IsKept begun known.old → IsTraceOf task.now workers begun known.old spans.old → IsTraceOf task.now workers begun known.new spans.new) }
+    ensures trace { OnOk result ((begun : List (Option Outcome)) → IsKept begun known.old → IsTraceOf task.now workers begun known.old spans.old → IsTraceOf task.now workers begun known.new spans.new) }
 {
     let Some(_ready) = first_ready(task, known) else {
         return Ok(false);
@@ -114,7 +137,7 @@ pub fn run_ready<G: Gate>(
         own: &own,
         base: task.base,
     };
-    let Ran { outcomes, trace } = burst_plain(alloc, &plan, gate)?;
+    let Ran { outcomes, trace } = run_plan(rt, alloc, &plan, workers, gate)?;
     merge(known, &outcomes);
     join(alloc, spans, trace)?;
     Ok(true)

@@ -97,7 +97,7 @@ pub heard_by : (p : KeptPeer) (i : inbox.KeptNewBlocks) (b : book.KeptVotes) (e 
     → ((rules : Rules) (K : Log) → newblocks.InboxStandsFor p.inbox rules K → newblocks.InboxStandsFor i rules (e ∷ K))
     → ((genesis : State) (puts : List Cast) → BookStandsFor p.book (voters_of p) puts → (more : List Cast) × BookStandsFor b (voters_of p) more × IsHeard (rules_for p genesis) p.me e (cast_by p puts) (cast_by p more))
     → HearsOf e p (with_heard p i b)
-heard_by p i b e stands votes genesis K running s =
+heard_by p i b e stands votes workers genesis K running s =
     let parts = s.parts running in
     let v = votes genesis parts.puts parts.book_stands in
     record {
@@ -111,7 +111,7 @@ heard_by p i b e stands votes genesis K running s =
       state_is = s.state_is;
       force_is = s.force_is;
       own_are = parts.own_are;
-      traced = λ workers some. subst (λ xs. AreTraced p.table.kind workers xs []) (sym (runs_start (rules_for p genesis) (rules_local (table_of p.table) genesis) p.me e K)) tt;
+      traced = subst (λ xs. AreTraced p.table.kind workers xs []) (sym (runs_start (rules_for p genesis) (rules_local (table_of p.table) genesis) p.me e K)) tt;
     }
 
 pub heard_newblock : (p : KeptPeer) (i : inbox.KeptNewBlocks) (from : Node) (m : NewBlock) → ((rules : Rules) (K : Log) → newblocks.InboxStandsFor p.inbox rules K → newblocks.InboxStandsFor i rules (newblocks.letter_of from m ∷ K))

@@ -80,9 +80,9 @@ force_more rules done entry force h = one entry.block.config refl
 
 -- WHAT IS READY
 
-pub accepted_is : (p : KeptPeer) (genesis : State) (me m : ℕ) (e : Letter) (K : Log) (sent : List Commit) (spans : List BlockSpans) → AreHashed (table_of p.table) p.ledger → MidwayAt genesis me m e K p sent spans
+pub accepted_is : (p : KeptPeer) (workers : ℕ) (genesis : State) (me m : ℕ) (e : Letter) (K : Log) (sent : List Commit) (spans : List BlockSpans) → AreHashed (table_of p.table) p.ledger → MidwayAt workers genesis me m e K p sent spans
     → accepted_at (rules_for p genesis) me m (e ∷ K) ≡ accepted (rules_for p genesis) (length p.ledger + 1) (tip_of p.ledger) (e ∷ K)
-accepted_is p genesis me m e K sent spans w at =
+accepted_is p workers genesis me m e K sent spans w at =
     let rules = rules_for p genesis in
     let same : length p.ledger + 1 ≡ suc m = omega (arith, length_done p, ap length at.mid.blocks, at.mid.full) in
     ap (λ (c : Bool). cond c (accepted rules (suc m) (tip rules (completed rules me m (e ∷ K))) (e ∷ K)) None) (eq-eqb (length (completed rules me m (e ∷ K))) m at.mid.full)

@@ -1,5 +1,5 @@
 -- A turn of a peer keeps it standing for its log.
-use Rattle.std.specs.Prelude.{ℕ, ◌+◌, ◌≡◌, ◌<◌, Bool, true, false, List, [], ◌∷◌, ◌++◌, map, replicate, length, get_or, Option, Some, None, IfSome, suc, refl}
+use Rattle.std.specs.Prelude.{ℕ, ◌+◌, ◌≡◌, Bool, true, false, List, [], ◌∷◌, ◌++◌, map, replicate, length, get_or, Option, Some, None, IfSome, suc, refl}
 use Rattle.std.specs.List.{list_all}
 use Rattle.std.specs.Option.{option_map}
 use Rattle.std.proofs.Common.{sym, ◌∙◌, ap, subst, arith}
@@ -44,9 +44,9 @@ use Rattle.hash_ledger.specs.Halts.{halt_of}
 use Rattle.peer_parts.proofs.Bridges.{stands_shown, outcomes_shown}
 use Rattle.peer_work.specs.declared.opened.Opened.{Opened}
 use Rattle.peer_turns.specs.declared.listing.BlockSpans.{BlockSpans}
-use Rattle.peer_work.specs.Openings.{IsWhole, IsWellOpened, IsFresh, IsFound, IsTraced, WorkDone}
+use Rattle.peer_work.specs.Openings.{IsWhole, IsFresh, IsFound, IsTraced, WorkDone}
 use Rattle.peer_work.specs.Completing.{forced_by, outcomes_in}
-use Rattle.peer_turns.specs.Peers.{KeptPeer, IsWellKept, Judged, with_work}
+use Rattle.peer_turns.specs.Peers.{KeptPeer, Judged, with_work}
 use Rattle.peer_turns.specs.Traces.{AreTraced, spans_listed}
 use Rattle.peer_turns.proofs.Tracing.{ran_reversed, traced_block, traced_more}
 use Rattle.peer_turns.specs.Relation.{done_of, rules_for, voters_of, opened_of, cast_by, MidwayAt, EndedAt, Turned}
@@ -68,15 +68,15 @@ record Taken (rules : Rules) (done : List lines.Entry) (me m : ℕ) (e : Letter)
 opened_as : (b : Block) (k1 k2 : List (Option Outcome)) (h1 h2 : List Vote) → k1 ≡ k2 → h1 ≡ h2 → ◌≡◌ {A = turns.InWork} (record { block = b; known = k1; held = h1 }) (record { block = b; known = k2; held = h2 })
 opened_as b k1 k2 h1 h2 p q = cc
 
-taken : (p : KeptPeer) (genesis : State) (me m : ℕ) (e : Letter) (K : Log) (sent : List Commit) (spans : List BlockSpans) (o : Opened) → AreHashed (table_of p.table) p.ledger → MidwayAt genesis me m e K p sent spans → IsNext p o → Taken (rules_for p genesis) (done_of p) me m e K p.work o
-taken p genesis me m e K sent spans o w at next = one p.work refl at.own_are
+taken : (p : KeptPeer) (workers : ℕ) (genesis : State) (me m : ℕ) (e : Letter) (K : Log) (sent : List Commit) (spans : List BlockSpans) (o : Opened) → AreHashed (table_of p.table) p.ledger → MidwayAt workers genesis me m e K p sent spans → IsNext p o → Taken (rules_for p genesis) (done_of p) me m e K p.work o
+taken p workers genesis me m e K sent spans o w at next = one p.work refl at.own_are
   where
     rules : Rules
     rules = rules_for p genesis
 
     one : (x : Option Opened) → p.work ≡ x → IfSome x (λ y. IsOwn (in_force rules (done_of p)) me y.block.txns y.own) → Taken rules (done_of p) me m e K x o
     one None q own = record {
-      accepted = accepted_is p genesis me m e K sent spans w at ∙ sym (next.ready q rules (e ∷ K) at.inbox_stands);
+      accepted = accepted_is p workers genesis me m e K sent spans w at ∙ sym (next.ready q rules (e ∷ K) at.inbox_stands);
       up = let f = next.fresh q in opened_as o.block o.known (replicate (length o.block.txns) None) o.held.votes [] f.known f.held;
       own = subst (λ i. IsOwn (in_force rules (done_of p)) i o.block.txns o.own) at.me_is (next.own q (in_force rules (done_of p)) at.force_is);
     }
@@ -95,29 +95,15 @@ taken p genesis me m e K sent spans o w at next = one p.work refl at.own_are
 abbrev pub with_book : KeptPeer → book.KeptVotes → Option Opened → KeptPeer
 with_book p b work = record { table = p.table; me = p.me; inbox = p.inbox; book = b; ledger = p.ledger; state = p.state; force = p.force; work = work; halted = p.halted }
 
--- a peer whose block in work is taken out
-pub taken_out : (p : KeptPeer) (b : book.KeptVotes) (work : Option Opened) → work ≡ None → IsWellKept p → IsWellKept (with_book p b work)
-taken_out p b work none w = record {
-  lawful = w.lawful;
-  kind = w.kind;
-  blocks = w.blocks;
-  entries = w.entries;
-  hashed = w.hashed;
-  values = w.values;
-  seats = w.seats;
-  opened = subst (λ (x : Option Opened). IfSome x (IsWellOpened (table_of p.table) p.ledger)) (sym none) tt;
-  split = w.split;
-}
-
 -- the calls on the block that a turn works on give what a turn makes
-pub turned : (p new : KeptPeer) (book2 : book.KeptVotes) (o after : Opened) (agreed : List (Option Outcome)) (more : Bool) (sent0 sent2 : List Commit) (all0 : List BlockSpans) (spans : List Span) (genesis : State) (me m : ℕ) (e : Letter) (K : Log)
-    → AreHashed (table_of p.table) p.ledger → MidwayAt genesis me m e K p sent0 all0 → IsNext p o → IsWhole (table_of p.table) after → o.block.number ≡ length p.ledger + 1 → after.block ≡ o.block → after.own ≡ o.own → length agreed ≡ length o.block.txns
+pub turned : (p new : KeptPeer) (book2 : book.KeptVotes) (o after : Opened) (agreed : List (Option Outcome)) (more : Bool) (sent0 sent2 : List Commit) (all0 : List BlockSpans) (spans : List Span) (workers : ℕ) (genesis : State) (me m : ℕ) (e : Letter) (K : Log)
+    → AreHashed (table_of p.table) p.ledger → MidwayAt workers genesis me m e K p sent0 all0 → IsNext p o → IsWhole (table_of p.table) after → o.block.number ≡ length p.ledger + 1 → after.block ≡ o.block → after.own ≡ o.own → length agreed ≡ length o.block.txns
     → ((gen : State) (behind : List Block) (voters : List ℕ) (puts : List Cast) → BookStandsFor p.book voters puts → contains voters p.me ≡ true → IsForce (in_force_behind (rules_of (table_of p.table) gen) behind) p.force
     → IsOwn (in_force_behind (rules_of (table_of p.table) gen) behind) p.me o.block.txns o.own → IsFound (in_force_behind (rules_of (table_of p.table) gen) behind) p.me o.block.number voters puts (values.state_of p.state) o
     → WorkDone (in_force_behind (rules_of (table_of p.table) gen) behind) p.me o.block.number voters puts (values.state_of p.state) o after book2 sent0 sent2 agreed)
-    → ((workers : ℕ) → 0 < workers → IsTraced (table_of p.table) workers o after spans)
-    → Judged after agreed more (with_book p book2 None) new → Turned genesis me m e K more new sent2 (all0 ++ spans_listed o.block.number spans)
-turned p new book2 o after agreed more sent0 sent2 all0 spans genesis me m e K w at next whole number same_block same_own long done trace j = result
+    → IsTraced (table_of p.table) workers o after spans
+    → Judged after agreed more (with_book p book2 None) new → Turned workers genesis me m e K more new sent2 (all0 ++ spans_listed o.block.number spans)
+turned p new book2 o after agreed more sent0 sent2 all0 spans workers genesis me m e K w at next whole number same_block same_own long done trace j = result
   where
     rules : Rules
     rules = rules_for p genesis
@@ -138,7 +124,7 @@ turned p new book2 o after agreed more sent0 sent2 all0 spans genesis me m e K w
     b = o.block
 
     t : Taken rules ds me m e K p.work o
-    t = taken p genesis me m e K sent0 all0 o w at next
+    t = taken p workers genesis me m e K sent0 all0 o w at next
 
     n : o.block.number ≡ suc m
     n = number ∙ omega (arith, length_done p, ap length at.mid.blocks, at.mid.full)
@@ -181,17 +167,17 @@ turned p new book2 o after agreed more sent0 sent2 all0 spans genesis me m e K w
     ran_here = runs_here rules l me m e K b cast ds (option_map opened_of p.work) sent0 after.known t.accepted at.mid after_is
         ∙ ap (λ (z : turns.InWork). listed (suc m) b.txns (turns.just_ran r me b.txns z.known after.known (length b.txns))) (sym t.up)
 
-    traced_here : (workers : ℕ) → 0 < workers → AreTraced p.table.kind workers (runs_in rules me m e K) (spans_listed o.block.number spans)
-    traced_here workers some = subst (λ xs. AreTraced p.table.kind workers xs (spans_listed o.block.number spans)) (sym ran_here)
+    traced_here : AreTraced p.table.kind workers (runs_in rules me m e K) (spans_listed o.block.number spans)
+    traced_here = subst (λ xs. AreTraced p.table.kind workers xs (spans_listed o.block.number spans)) (sym ran_here)
         (subst (λ i. AreTraced p.table.kind workers (listed i b.txns (turns.just_ran r me b.txns o.known after.known (length b.txns))) (spans_listed o.block.number spans)) n
         (traced_block p.table.kind workers o.block.number b.txns (turns.just_ran r me b.txns o.known after.known (length b.txns)) spans
-        (subst (λ xs. IsLawfulTrace p.table.kind b.txns workers xs (map span_of spans)) (ran_reversed r me b.txns o.own o.known after.known t.own (length b.txns) (omega arith)) (trace workers some))))
+        (subst (λ xs. IsLawfulTrace p.table.kind b.txns workers xs (map span_of spans)) (ran_reversed r me b.txns o.own o.known after.known t.own (length b.txns) (omega arith)) trace)))
 
-    traced : (workers : ℕ) → 0 < workers → AreTraced p.table.kind workers (runs_upto rules me (suc m) e K) all2
-    traced workers some = traced_more p.table.kind workers (runs_upto rules me m e K) (runs_in rules me m e K) all0 (spans_listed o.block.number spans) (at.traced workers some) (traced_here workers some)
+    traced : AreTraced p.table.kind workers (runs_upto rules me (suc m) e K) all2
+    traced = traced_more p.table.kind workers (runs_upto rules me m e K) (runs_in rules me m e K) all0 (spans_listed o.block.number spans) at.traced traced_here
 
-    traced_left : list_all is_agreed (stood rules me m (e ∷ K) b) ≡ false → is_split rules me (heard rules me K) ≡ false → (workers : ℕ) → 0 < workers → AreTraced p.table.kind workers (runs rules me (e ∷ K)) all2
-    traced_left z calm workers some = subst (λ xs. AreTraced p.table.kind workers xs all2) (runs_left rules me m e K b cast2 ds work2 sent2 wk z calm) (traced workers some)
+    traced_left : list_all is_agreed (stood rules me m (e ∷ K) b) ≡ false → is_split rules me (heard rules me K) ≡ false → AreTraced p.table.kind workers (runs rules me (e ∷ K)) all2
+    traced_left z calm = subst (λ xs. AreTraced p.table.kind workers xs all2) (runs_left rules me m e K b cast2 ds work2 sent2 wk z calm) traced
 
     S : List Standing
     S = stand_all after.own after.known agreed
@@ -210,13 +196,13 @@ turned p new book2 o after agreed more sent0 sent2 all0 spans genesis me m e K w
     halt_is : (x : Option Halt) → first_halt (suc m) 0 b.txns (stood rules me m (e ∷ K) b) ≡ x → first_halt after.block.number 0 after.block.txns S ≡ x
     halt_is x h = ap (λ (c : Block). first_halt c.number 0 c.txns S) same_block ∙ (ap (λ i. first_halt i 0 b.txns S) n ∙ (ap (first_halt (suc m) 0 b.txns) standing_is ∙ h))
 
-    given : (x : Bool) (q : KeptPeer) → more ≡ x → new ≡ q → Turned genesis me m e K x q sent2 all2 → Turned genesis me m e K more new sent2 all2
-    given x q a c d = subst (λ y. Turned genesis me m e K y new sent2 all2) (sym a) (subst (λ z. Turned genesis me m e K x z sent2 all2) (sym c) d)
+    given : (x : Bool) (q : KeptPeer) → more ≡ x → new ≡ q → Turned workers genesis me m e K x q sent2 all2 → Turned workers genesis me m e K more new sent2 all2
+    given x q a c d = subst (λ y. Turned workers genesis me m e K y new sent2 all2) (sym a) (subst (λ z. Turned workers genesis me m e K x z sent2 all2) (sym c) d)
 
-    result : Turned genesis me m e K more new sent2 all2
+    result : Turned workers genesis me m e K more new sent2 all2
     result = one (first_halt (suc m) 0 b.txns (stood rules me m (e ∷ K) b)) refl (list_all is_agreed (stood rules me m (e ∷ K) b)) refl
       where
-        one : (x : Option Halt) → first_halt (suc m) 0 b.txns (stood rules me m (e ∷ K) b) ≡ x → (a : Bool) → list_all is_agreed (stood rules me m (e ∷ K) b) ≡ a → Turned genesis me m e K more new sent2 all2
+        one : (x : Option Halt) → first_halt (suc m) 0 b.txns (stood rules me m (e ∷ K) b) ≡ x → (a : Bool) → list_all is_agreed (stood rules me m (e ∷ K) b) ≡ a → Turned workers genesis me m e K more new sent2 all2
         one (Some h) q a z =
             let js = j.splits h (halt_is (Some h) q) in
             given false (with_work (with_book p book2 None) None new.halted) js.0 js.2 (record {
@@ -270,10 +256,10 @@ turned p new book2 o after agreed more sent0 sent2 all0 spans genesis me m e K w
             entry_as c d u v a f = cc
 
 -- where nothing more is ready
-pub turn_ends : (p : KeptPeer) (sent : List Commit) (spans : List BlockSpans) (genesis : State) (me m : ℕ) (e : Letter) (K : Log) → AreHashed (table_of p.table) p.ledger → MidwayAt genesis me m e K p sent spans
+pub turn_ends : (p : KeptPeer) (sent : List Commit) (spans : List BlockSpans) (workers : ℕ) (genesis : State) (me m : ℕ) (e : Letter) (K : Log) → AreHashed (table_of p.table) p.ledger → MidwayAt workers genesis me m e K p sent spans
     → ((x : Opened) → p.work ≡ Some x → ⊥) → (p.work ≡ None → (rules : Rules) (L : Log) → inbox.InboxStandsFor p.inbox rules L → None ≡ accepted rules (length p.ledger + 1) (tip_of p.ledger) L)
-    → EndedAt genesis me e K (with_book p p.book None) sent spans
-turn_ends p sent spans genesis me m e K w at none ready = one p.work refl
+    → EndedAt workers genesis me e K (with_book p p.book None) sent spans
+turn_ends p sent spans workers genesis me m e K w at none ready = one p.work refl
   where
     rules : Rules
     rules = rules_for p genesis
@@ -281,16 +267,16 @@ turn_ends p sent spans genesis me m e K w at none ready = one p.work refl
     ds : List lines.Entry
     ds = done_of p
 
-    one : (x : Option Opened) → p.work ≡ x → EndedAt genesis me e K (with_book p p.book None) sent spans
+    one : (x : Option Opened) → p.work ≡ x → EndedAt workers genesis me e K (with_book p p.book None) sent spans
     one (Some y) q = absurd (none y q)
     one None q =
-        let h : accepted_at rules me m (e ∷ K) ≡ None = accepted_is p genesis me m e K sent spans w at ∙ sym (ready q rules (e ∷ K) at.inbox_stands) in
+        let h : accepted_at rules me m (e ∷ K) ≡ None = accepted_is p workers genesis me m e K sent spans w at ∙ sym (ready q rules (e ∷ K) at.inbox_stands) in
         let x = ends rules (rules_local (table_of p.table) genesis) me m e K (cast_by p at.puts) ds (option_map opened_of p.work) sent at.mid h in
         record {
           me_is = at.me_is;
           state_is = at.state_is;
           force_is = at.force_is;
-          traced = λ calm workers some. subst (λ xs. AreTraced p.table.kind workers xs spans) (runs_end rules me m e K (cast_by p at.puts) ds (option_map opened_of p.work) sent at.mid h calm) (at.traced workers some);
+          traced = λ calm. subst (λ xs. AreTraced p.table.kind workers xs spans) (runs_end rules me m e K (cast_by p at.puts) ds (option_map opened_of p.work) sent at.mid h calm) at.traced;
           leaves = subst (λ (h : Option Halt). Left rules me e K ds sent h) (sym (ap (option_map halt_of) at.running)) x.1;
           parts = λ running. record {
             puts = at.puts;
@@ -301,8 +287,8 @@ turn_ends p sent spans genesis me m e K w at none ready = one p.work refl
           };
         }
 
-pub was_last : (genesis : State) (me m : ℕ) (e : Letter) (K : Log) (more : Bool) (p : KeptPeer) (sent : List Commit) (spans : List BlockSpans) → more ≡ false → Turned genesis me m e K more p sent spans → EndedAt genesis me e K p sent spans
-was_last genesis me m e K more p sent spans q t = subst (λ (b : Bool). Turned genesis me m e K b p sent spans) q t
+pub was_last : (workers : ℕ) (genesis : State) (me m : ℕ) (e : Letter) (K : Log) (more : Bool) (p : KeptPeer) (sent : List Commit) (spans : List BlockSpans) → more ≡ false → Turned workers genesis me m e K more p sent spans → EndedAt workers genesis me e K p sent spans
+was_last workers genesis me m e K more p sent spans q t = subst (λ (b : Bool). Turned workers genesis me m e K b p sent spans) q t
 
-pub was_more : (genesis : State) (me m : ℕ) (e : Letter) (K : Log) (more : Bool) (p : KeptPeer) (sent : List Commit) (spans : List BlockSpans) → more ≡ true → Turned genesis me m e K more p sent spans → MidwayAt genesis me (suc m) e K p sent spans
-was_more genesis me m e K more p sent spans q t = subst (λ (b : Bool). Turned genesis me m e K b p sent spans) q t
+pub was_more : (workers : ℕ) (genesis : State) (me m : ℕ) (e : Letter) (K : Log) (more : Bool) (p : KeptPeer) (sent : List Commit) (spans : List BlockSpans) → more ≡ true → Turned workers genesis me m e K more p sent spans → MidwayAt workers genesis me (suc m) e K p sent spans
+was_more workers genesis me m e K more p sent spans q t = subst (λ (b : Bool). Turned workers genesis me m e K b p sent spans) q t

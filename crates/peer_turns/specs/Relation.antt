@@ -1,5 +1,5 @@
 -- A peer against its log.
-use Rattle.std.specs.Prelude.{ℕ, suc, ◌==◌, ◌≡◌, ◌<◌, Bool, true, false, List, [], ◌∷◌, length, None, IfSome}
+use Rattle.std.specs.Prelude.{ℕ, suc, ◌==◌, ◌≡◌, Bool, true, false, List, [], ◌∷◌, length, None, IfSome}
 use Rattle.std.specs.Option.{option_map}
 use Rattle.txn_types.specs.declared.message.Commit.{Commit}
 use Rattle.txn_types.specs.declared.message.Message.{Message}
@@ -58,8 +58,8 @@ pub record Parts (p : KeptPeer) (genesis : State) (me : ℕ) (K : Log) : Type 0 
   pub stands : Running (rules_for p genesis) me K (cast_by p puts) (done_of p) (option_map opened_of p.work)
   pub own_are : IfSome p.work (λ o. IsOwn (in_force (rules_for p genesis) (done_of p)) me o.block.txns o.own)
 
--- within one delivery, m blocks being done with
-pub record MidwayAt (genesis : State) (me m : ℕ) (e : Letter) (K : Log) (p : KeptPeer) (sent : List Commit) (spans : List BlockSpans) : Type 0 where
+-- within one delivery, m blocks being done with, where each was run with so many workers
+pub record MidwayAt (workers : ℕ) (genesis : State) (me m : ℕ) (e : Letter) (K : Log) (p : KeptPeer) (sent : List Commit) (spans : List BlockSpans) : Type 0 where
   pub me_is : p.me ≡ me
   pub running : p.halted ≡ None
   pub voter : contains (voters_of p) me ≡ true
@@ -70,26 +70,26 @@ pub record MidwayAt (genesis : State) (me m : ℕ) (e : Letter) (K : Log) (p : K
   pub state_is : values.state_of p.state ≡ ledger_state (rules_for p genesis) (done_of p)
   pub force_is : IsForce (in_force (rules_for p genesis) (done_of p)) p.force
   pub own_are : IfSome p.work (λ o. IsOwn (in_force (rules_for p genesis) (done_of p)) me o.block.txns o.own)
-  pub traced : (workers : ℕ) → 0 < workers → AreTraced p.table.kind workers (runs_upto (rules_for p genesis) me m e K) spans
+  pub traced : AreTraced p.table.kind workers (runs_upto (rules_for p genesis) me m e K) spans
 
 -- behind it
-pub record EndedAt (genesis : State) (me : ℕ) (e : Letter) (K : Log) (p : KeptPeer) (sent : List Commit) (spans : List BlockSpans) : Type 0 where
+pub record EndedAt (workers : ℕ) (genesis : State) (me : ℕ) (e : Letter) (K : Log) (p : KeptPeer) (sent : List Commit) (spans : List BlockSpans) : Type 0 where
   pub me_is : p.me ≡ me
   pub state_is : values.state_of p.state ≡ ledger_state (rules_for p genesis) (done_of p)
   pub force_is : IsForce (in_force (rules_for p genesis) (done_of p)) p.force
   pub leaves : Left (rules_for p genesis) me e K (done_of p) sent (option_map halt_of p.halted)
-  pub traced : is_split (rules_for p genesis) me (heard (rules_for p genesis) me K) ≡ false → (workers : ℕ) → 0 < workers → AreTraced p.table.kind workers (runs (rules_for p genesis) me (e ∷ K)) spans
+  pub traced : is_split (rules_for p genesis) me (heard (rules_for p genesis) me K) ≡ false → AreTraced p.table.kind workers (runs (rules_for p genesis) me (e ∷ K)) spans
   pub parts : p.halted ≡ None → Parts p genesis me (e ∷ K)
 
 -- behind a turn: midway with one block more, or at the end
-abbrev pub Turned : State → ℕ → ℕ → Letter → Log → Bool → KeptPeer → List Commit → List BlockSpans → Type 0
-Turned genesis me m e K true p sent spans = MidwayAt genesis me (suc m) e K p sent spans
-Turned genesis me m e K false p sent spans = EndedAt genesis me e K p sent spans
+abbrev pub Turned : ℕ → State → ℕ → ℕ → Letter → Log → Bool → KeptPeer → List Commit → List BlockSpans → Type 0
+Turned workers genesis me m e K true p sent spans = MidwayAt workers genesis me (suc m) e K p sent spans
+Turned workers genesis me m e K false p sent spans = EndedAt workers genesis me e K p sent spans
 
 -- what a turn makes of a peer that is midway
-abbrev pub TurnsOf : Bool → KeptPeer → List Commit → List BlockSpans → KeptPeer → List Commit → List BlockSpans → Type 0
-TurnsOf more old sent_old spans_old new sent_new spans_new =
-    (genesis : State) (me m : ℕ) (e : Letter) (K : Log) → MidwayAt genesis me m e K old sent_old spans_old → Turned genesis me m e K more new sent_new spans_new
+abbrev pub TurnsOf : ℕ → Bool → KeptPeer → List Commit → List BlockSpans → KeptPeer → List Commit → List BlockSpans → Type 0
+TurnsOf workers more old sent_old spans_old new sent_new spans_new =
+    (genesis : State) (me m : ℕ) (e : Letter) (K : Log) → MidwayAt workers genesis me m e K old sent_old spans_old → Turned workers genesis me m e K more new sent_new spans_new
 
 -- the sender is this peer
 abbrev pub is_me : ℕ → Node → Bool
@@ -115,7 +115,7 @@ StandsFor p genesis L = StandsOn p genesis (heard (rules_for p genesis) p.me L)
 
 -- what hearing a message makes of a peer that isn't halted
 abbrev pub HearsOf : Letter → KeptPeer → KeptPeer → Type 0
-HearsOf e old new = (genesis : State) (K : Log) → old.halted ≡ None → StandsOn old genesis K → MidwayAt genesis old.me (length (ledger (rules_for old genesis) old.me K)) e K new [] []
+HearsOf e old new = (workers : ℕ) (genesis : State) (K : Log) → old.halted ≡ None → StandsOn old genesis K → MidwayAt workers genesis old.me (length (ledger (rules_for old genesis) old.me K)) e K new [] []
 
 -- what a message to a peer that isn't halted is to it
 abbrev pub NotesOf : Node → Message → KeptPeer → Note → Type 0

@@ -18,8 +18,8 @@ returns-clause-all g c = λ h z.
     subst (HasAllGiven k) (sym none.0) (all_given (frame_of k) k.agreed.now c.adopt.new.known long (c.adopt.ensures.sound z) (c.adopt.ensures.others z) none.1)
 
 pub returns-clause-trace : goal.returns-clause-trace
-returns-clause-trace g c = λ workers begun w kept so_far.
+returns-clause-trace g c = λ begun kept so_far.
     let k = c.args.task.now in
     let n = length k.block.now.txns in
-    c.in_ok-more.ensures.trace workers begun w (λ t o h. c.adopt.ensures.kept t o (kept t o h))
-    (subst (λ ts. IsLawfulTrace k.table.now.kind k.block.now.txns workers ts (map span_of c.args.spans.now)) (sym (between_same k.own.now begun c.args.known.now c.adopt.new.known c.adopt.ensures.own n)) so_far)
+    c.in_ok-more.ensures.trace begun (λ t o h. c.adopt.ensures.kept t o (kept t o h))
+    (subst (λ ts. IsLawfulTrace k.table.now.kind k.block.now.txns c.args.workers ts (map span_of c.args.spans.now)) (sym (between_same k.own.now begun c.args.known.now c.adopt.new.known c.adopt.ensures.own n)) so_far)

@@ -18,7 +18,7 @@ loop-spans-init g c =
       closed = c.requires.closed;
       kept = λ t o h. h;
       sound = λ z. z;
-      trace = λ workers w. subst (IsTraceOf k workers c.args.known c.args.known) (sym c.new-spans.ensures) (no_trace k.table.now.kind k.block.now.txns workers k.own.now c.args.known (length k.block.now.txns) w);
+      trace = let workers = c.args.workers in let w = c.requires.workers.0 in subst (IsTraceOf k workers c.args.known c.args.known) (sym c.new-spans.ensures) (no_trace k.table.now.kind k.block.now.txns workers k.own.now c.args.known (length k.block.now.txns) (omega (arith, w)));
     }
 
 pub loop-spans-preserved : goal.loop-spans-preserved
@@ -31,14 +31,14 @@ loop-spans-preserved g c =
       closed = r.closed;
       kept = λ t o h. r.kept t o (i.kept t o h);
       sound = λ z. r.sound (i.sound z);
-      trace = λ workers w. r.trace workers c.args.known w i.kept (i.trace workers w);
+      trace = r.trace c.args.known i.kept i.trace;
     }
 
 pub round-requires-clause-short : goal.round-requires-clause-short
 round-requires-clause-short g c = λ κs lives.
     let k = c.args.task.now in
     let n = length k.block.now.txns in
-    short_of k.table.now.kind k.block.now.txns 1 (ran_between k.own.now c.args.known c.loop-spans.known n) c.loop-spans.spans (c.loop-spans.invariant.trace 1 (omega arith))
+    short_of k.table.now.kind k.block.now.txns c.args.workers (ran_between k.own.now c.args.known c.loop-spans.known n) c.loop-spans.spans c.loop-spans.invariant.trace
     (omega (arith, between_few k.own.now c.args.known c.loop-spans.known n, block_few (table_of k.table.now) k.block.now c.requires.task.block))
 
 pub returns-clause-found : goal.returns-clause-found
@@ -50,4 +50,4 @@ returns-clause-found g c = λ z.
     ∙ all_found (frame_of k) k.agreed.now xs long (c.in_ok-round.ensures.sound (c.loop-spans.invariant.sound z)) (c.in_ok-round.ensures.all c.if-branch.false (c.loop-spans.invariant.sound z)) (length k.block.now.txns) (omega arith)
 
 pub returns-clause-trace : goal.returns-clause-trace
-returns-clause-trace g c = λ workers w. c.in_ok-round.ensures.trace workers c.args.known w c.loop-spans.invariant.kept (c.loop-spans.invariant.trace workers w)
+returns-clause-trace g c = c.in_ok-round.ensures.trace c.args.known c.loop-spans.invariant.kept c.loop-spans.invariant.trace

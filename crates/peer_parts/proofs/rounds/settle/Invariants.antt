@@ -1,4 +1,4 @@
-use Rattle.std.proofs.Common.{◌≡◌, ◌<◌, ℕ, length}
+use Rattle.std.proofs.Common.{◌≡◌, length}
 use Rattle.board_defs.specs.Closure.{IsKnownClosed}
 use Rattle.steal_pool.specs.Fitting.{AllFitAt}
 use Rattle.peer_parts.specs.Found.{IsKept, IsSound, unknown}
@@ -12,7 +12,7 @@ invariant-loop-spans g l = record {
   closed : IsKnownClosed l.task.table.now.kind l.task.block.now.txns l.known;
   kept : IsKept l.fn.known l.known;
   sound : IsSound (frame_of l.task) l.task.agreed.now l.fn.known → IsSound (frame_of l.task) l.task.agreed.now l.known;
-  trace : (workers : ℕ) → 0 < workers → IsTraceOf l.task workers l.fn.known l.known l.spans;
+  trace : IsTraceOf l.task l.workers l.fn.known l.known l.spans;
 }
 
 abbrev pub decreases-loop-spans : goal.decreases-loop-spans

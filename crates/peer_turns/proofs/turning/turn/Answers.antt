@@ -20,8 +20,8 @@ returns-in_default-clause-turned g c = λ genesis me m f K at.
     let none = c.in_default.is in
     let was = c.take-work.ensures.value in
     let e = c.in_ok-opened.ensures in
-    subst (λ (w : Option Opened). EndedAt genesis me f K (with_book p p.book w) c.args.sent.now c.args.spans.now) (sym c.take-work.ensures.after)
-    (turn_ends p c.args.sent.now c.args.spans.now genesis me m f K c.requires.kept.hashed at
+    subst (λ (w : Option Opened). EndedAt c.args.workers genesis me f K (with_book p p.book w) c.args.sent.now c.args.spans.now) (sym c.take-work.ensures.after)
+    (turn_ends p c.args.sent.now c.args.spans.now c.args.workers genesis me m f K c.requires.kept.hashed at
     (λ x q. none-some x (sym none ∙ e.kept x (was ∙ q)))
     (λ q rules L s. ap (option_map (λ (o : Opened). o.block)) (sym none) ∙ e.ready (was ∙ q) rules L s))
 
@@ -41,7 +41,7 @@ returns-clause-turned g c = λ genesis me m f K at.
       ready = λ q rules L s. ap (option_map (λ (z : Opened). z.block)) (sym some) ∙ e.ready (was ∙ q) rules L s;
       own = λ q. subst (λ (x : Option Opened). IfSome x (λ z. (rules : Rules) → IsForce rules p.force → IsOwn rules p.me z.block.txns z.own)) some (e.own (was ∙ q));
     } in
-    subst (λ (xs : List BlockSpans). Turned genesis me m f K c.in_ok-more.more new c.work_on.new.sent xs) (sym c.in_ok-list.ensures)
-    (turned p new c.work_on.new.book o c.in_ok-worked.worked.opened c.in_ok-worked.worked.agreed c.in_ok-more.more c.args.sent.now c.work_on.new.sent c.args.spans.now c.in_ok-worked.worked.spans genesis me m f K c.requires.kept.hashed at
+    subst (λ (xs : List BlockSpans). Turned c.args.workers genesis me m f K c.in_ok-more.more new c.work_on.new.sent xs) (sym c.in_ok-list.ensures)
+    (turned p new c.work_on.new.book o c.in_ok-worked.worked.opened c.in_ok-worked.worked.agreed c.in_ok-more.more c.args.sent.now c.work_on.new.sent c.args.spans.now c.in_ok-worked.worked.spans c.args.workers genesis me m f K c.requires.kept.hashed at
     next w.whole well.number w.block w.own w.long w.done w.trace
     (subst (λ (x : Option Opened). Judged c.in_ok-worked.worked.opened c.in_ok-worked.worked.agreed c.in_ok-more.more (with_book p c.work_on.new.book x) new) c.take-work.ensures.after c.in_ok-more.ensures.judged))

@@ -6,7 +6,7 @@ use Rattle.peer_turns.proofs.turning.turns.Goals as goal
 pub returns-then-not-more-clause-ended : goal.returns-then-not-more-clause-ended
 returns-then-not-more-clause-ended g c = λ genesis me m e K at.
     let r = c.loop-more.invariant.midway genesis me m e K at in
-    was_last genesis me r.0 e K _ _ _ _ c.if-not-more.true (c.in_ok-more.ensures.turned genesis me r.0 e K r.1)
+    was_last c.args.workers genesis me r.0 e K _ _ _ _ c.if-not-more.true (c.in_ok-more.ensures.turned genesis me r.0 e K r.1)
 
 pub loop-more-preserved : goal.loop-more-preserved
 loop-more-preserved g c = record {
@@ -14,5 +14,5 @@ loop-more-preserved g c = record {
   me = c.in_ok-more.ensures.me ∙ c.loop-more.invariant.me;
   midway = λ genesis me m e K at.
       let r = c.loop-more.invariant.midway genesis me m e K at in
-      (suc r.0, was_more genesis me r.0 e K _ _ _ _ c.if-not-more.false (c.in_ok-more.ensures.turned genesis me r.0 e K r.1));
+      (suc r.0, was_more c.args.workers genesis me r.0 e K _ _ _ _ c.if-not-more.false (c.in_ok-more.ensures.turned genesis me r.0 e K r.1));
 }

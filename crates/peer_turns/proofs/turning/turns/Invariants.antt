@@ -9,7 +9,7 @@ abbrev pub invariant-loop-more : goal.invariant-loop-more
 invariant-loop-more g l = record {
   kept : IsWellKept (peer_of l.table l.desk);
   me : l.desk.me ≡ l.fn.desk.me;
-  midway : (genesis : State) (me m : ℕ) (e : Letter) (K : Log) → MidwayAt genesis me m e K (peer_of l.table l.fn.desk) l.fn.sent l.fn.spans → (k : ℕ) × MidwayAt genesis me k e K (peer_of l.table l.desk) l.sent l.spans;
+  midway : (genesis : State) (me m : ℕ) (e : Letter) (K : Log) → MidwayAt l.workers genesis me m e K (peer_of l.table l.fn.desk) l.fn.sent l.fn.spans → (k : ℕ) × MidwayAt l.workers genesis me k e K (peer_of l.table l.desk) l.sent l.spans;
 }
 
 abbrev pub decreases-loop-more : goal.decreases-loop-more

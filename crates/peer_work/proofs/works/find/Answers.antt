@@ -23,6 +23,7 @@ returns-clause-found g c = λ genesis behind me voters puts s force own isf.
     (subst (λ (ks : List (Option Outcome)). IsSound plan c.in_ok-agreed.agreed ks → c.in_ok-settled.settled.known ≡ found_by plan c.in_ok-agreed.agreed (length o.block.txns)) c.in_ok-known.ensures c.in_ok-settled.ensures.found)
 
 pub returns-clause-trace : goal.returns-clause-trace
-returns-clause-trace g c = λ workers some.
+returns-clause-trace g c =
+    let workers = c.args.workers in
     let o = c.args.opened.now in
-    subst (λ (ks : List (Option Outcome)). IsTraced (table_of c.args.table.now) workers (record o { known = ks }) (record o { known = c.in_ok-settled.settled.known }) c.in_ok-settled.settled.spans) c.in_ok-known.ensures (c.in_ok-settled.ensures.trace workers some)
+    subst (λ (ks : List (Option Outcome)). IsTraced (table_of c.args.table.now) workers (record o { known = ks }) (record o { known = c.in_ok-settled.settled.known }) c.in_ok-settled.settled.spans) c.in_ok-known.ensures c.in_ok-settled.ensures.trace
