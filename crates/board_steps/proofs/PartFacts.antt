@@ -1,7 +1,8 @@
 -- What the parts of a finish owe: the edges of a row, and the entries of an outcome.
 use Rattle.std.proofs.Common.{◌≡◌, ℕ, zero, suc, Bool, true, false, cond, ◌==◌, ◌||◌, ◌+◌, ◌<◌, ◌≤◌, ⊎_elim, List, [], ◌∷◌, length, take, get_or, sym, refl, ap, ◌∙◌, subst, arith, Option, Some, None}
 use Rattle.std.specs.Prelude.{is_some}
-use Rattle.std.proofs.lemmas.Bool.{false≢true, eq-eqb, eqb-true, or_cases}
+use Rattle.std.proofs.lemmas.Bool.{false≢true, eq-eqb, eqb-true, or_cases, or_right}
+use Rattle.std.proofs.lemmas.Option.{none-some}
 use Rattle.std.proofs.lemmas.List.{take_more}
 use Rattle.txn_types.specs.Rising.{IsRising}
 use Rattle.txn_types.specs.declared.txn.Outcome.TheVariants.{Commit}
@@ -25,11 +26,7 @@ stands_in (x ∷ xs) (suc k) l = let a = stands_in xs k (omega arith) in omega a
 pub contains_at : (xs : List ℕ) (k : ℕ) → k < length xs → contains xs (get_or xs k 0) ≡ true
 contains_at [] k l = absurd (omega arith)
 contains_at (x ∷ xs) zero l = ap (λ b. b || contains xs x) (eq-eqb x x refl)
-contains_at (x ∷ xs) (suc k) l = second (get_or xs k 0 == x) (contains xs (get_or xs k 0)) (contains_at xs k (omega arith))
-  where
-    second : (a b : Bool) → b ≡ true → (a || b) ≡ true
-    second true b e = refl
-    second false b e = e
+contains_at (x ∷ xs) (suc k) l = or_right (get_or xs k 0 == x) (contains xs (get_or xs k 0)) (contains_at xs k (omega arith))
 
 above : (w : ℕ) (ws : List ℕ) (q : ℕ) → IsRising (w ∷ ws) → contains ws q ≡ true → w < q
 above w [] q rising h = absurd (false≢true h)
@@ -46,10 +43,7 @@ not_given None h = refl
 -- the entry at a place is what the outcome gives the record there
 given_back : (ws : List ℕ) (cells : List (Option ℕ)) (k x : ℕ) → IsRising ws → k < length ws → get_or cells k None ≡ Some x → given ws cells (get_or ws k 0) ≡ Some x
 given_back [] cells k x rising l e = absurd (omega arith)
-given_back (w ∷ ws) [] k x rising l e = absurd (nothing-some x e)
-  where
-    nothing-some : (x : ℕ) → None ≡ Some x → ⊥
-    nothing-some x e = absurd (cc)
+given_back (w ∷ ws) [] k x rising l e = absurd (none-some x e)
 given_back (w ∷ ws) (c ∷ cells) zero x rising l e =
     ap (λ g. later g (cond (w == w) c None)) (not_given (given ws cells w) (λ h. let a = above w ws w rising (given_is ws cells w h) in absurd (omega arith)))
     ∙ (ap (λ b. cond b c None) (eq-eqb w w refl) ∙ e)

@@ -5,7 +5,7 @@ use mathlib.Core.Option.{some, some-injective, some-ne-none}
 use mathlib.Core.Logic.{dite}
 use native.Mathlib.Decide.{ℕ_discrete, dec_lt}
 use lib.ListN.{get_elem?}
-use Rattle.std.proofs.lemmas.List.{get_or-take, get_or_append_left, length-append, length-take-le}
+use Rattle.std.proofs.lemmas.List.{append-nil, get_or-take, get_or_append_left, get_or_past, length-append, length-take-le}
 use Rattle.std.proofs.Math.Seq.{get_or-append_seam}
 use Rattle.std.proofs.lemmas.Bool.{lt-ltb, le-ltb, and_parts, and_from, cases_lt, ne_eqb}
 use Rattle.atomic_table.specs.Table.{opening}
@@ -28,21 +28,18 @@ use Rattle.board_core.proofs.Cells.{after_same}
 use Rattle.board_work.specs.Scripts.{AreHeld, script, waits, is_edge, writes_at}
 use Rattle.script_laws.specs.Laws.{IsFullPlan}
 use Rattle.board_steps.specs.Abouts.{HasRoom}
-use Rattle.script_laws.proofs.Sound.{sound, own_below, past, edge_is}
+use Rattle.script_laws.proofs.Sound.{sound, own_below, edge_is}
 use Rattle.board_words.specs.Filled.{AreRows}
 use Rattle.board_steps.proofs.PartFacts.{one_most}
 use Rattle.board_core.proofs.Closing.{same_below}
 use Rattle.script_laws.proofs.Starts.{starts}
+use Rattle.trace_laws.proofs.Entries.{all_same}
 
 -- THE GRAPH'S LISTS
 
 graph_step : (kind : Kind) (before xs : List Txn) (t : ℕ) → t < length xs → get_or (graph_after kind before xs) t [] ≡ preds_from kind (get_or xs t no_txn) 0 (before ++ take t xs)
 graph_step kind before [] t l = absurd (omega arith)
-graph_step kind before (x ∷ xs) zero l = ap (preds_from kind x 0) (sym (append_nil before))
-  where
-    append_nil : (ys : List Txn) → ys ++ [] ≡ ys
-    append_nil [] = refl
-    append_nil (y ∷ ys) = ap (λ zs. y ∷ zs) (append_nil ys)
+graph_step kind before (x ∷ xs) zero l = ap (preds_from kind x 0) (sym (append-nil before))
 graph_step kind before (x ∷ xs) (suc t) l = graph_step kind (before ++ x ∷ []) xs t (omega arith) ∙ ap (preds_from kind (get_or xs t no_txn) 0) (assoc before x (take t xs))
   where
     assoc : (ys : List Txn) (x : Txn) (zs : List Txn) → (ys ++ x ∷ []) ++ zs ≡ ys ++ x ∷ zs
@@ -162,12 +159,6 @@ opens p ws sound size zero_clock fields empty values = let v = first_view p in r
 pub flags_fit : (p : Script) (flags : List Bool) → length flags ≡ p.size → ((t : ℕ) → t < length flags → (get_or flags t false ≡ true → IsOwn p t × (planned p t ≡ 0)) × (IsOwn p t → planned p t ≡ 0 → get_or flags t false ≡ true)) → AreFlags (ready_below p.size p) flags
 flags_fit p flags size each t l = ((λ is. let a = (each t l).0 is in ready_all p.size p t (omega arith) a.0 a.1), λ pos. let a = ready_low p.size p t pos in (each t l).1 a.0 a.1)
 
--- a list of one thing, and beyond
-pub all_same : {A : Type 0} (n t : ℕ) (x : A) → get_or (replicate n x) t x ≡ x
-all_same zero t x = refl
-all_same (suc n) zero x = refl
-all_same (suc n) (suc t) x = all_same n t x
-
 -- the words that a plan fills in meet the rule
 pub opens_plan : (p : Plan) (ws : List ℕ) → IsFullPlan p → AreHeld p → HasRoom p (length ws) → clock ws ≡ 0 → ((t : ℕ) → is_own p t ≡ true → (need ws t ≡ planned (script p) t) × (turn ws t ≡ 0)) → ((t k : ℕ) → is_own p t ≡ true → k < 1 + length (writes_at p t) → part ws t k ≡ 0)
     → ((r : ℕ) → r < length p.table.records → value ws r ≡ value_in (after_known p.base p.txns p.known) r) → Holds (script p) (opening ws [] (first_view (script p)))
@@ -226,14 +217,14 @@ rows_once plan rows h s y = go (dec_lt s (length plan.txns))
   where
     go : Dec (s < length plan.txns) → times y (get_or rows s []) ≤ 1
     go (yes l) = let a = h.edges s y l in let b = one_most (waits plan s y) in omega arith
-    go (no n) = let a = ap (times y) (past rows s [] (let e = h.long in omega arith)) in omega arith
+    go (no n) = let a = ap (times y) (get_or_past rows s [] (let e = h.long in omega arith)) in omega arith
 
 pub rows_low : (plan : Plan) (rows : List (List ℕ)) → IsFullPlan plan → AreRows plan rows → (s y : ℕ) → 0 < times y (get_or rows s []) → y < length rows
 rows_low plan rows h r s y pos = go (dec_lt s (length plan.txns))
   where
     go : Dec (s < length plan.txns) → y < length rows
     go (yes l) = let a = r.edges s y l in let e = edge_is plan h s y (omega arith) in let b = own_below plan h y e.0 in let c = r.long in omega arith
-    go (no n) = let a = ap (times y) (past rows s [] (let e = r.long in omega arith)) in absurd (omega arith)
+    go (no n) = let a = ap (times y) (get_or_past rows s [] (let e = r.long in omega arith)) in absurd (omega arith)
 
 -- the words after the loops
 pub filled : (plan : Plan) (n : ℕ) (w0 w1 w2 : List ℕ) (rows : List (List ℕ)) → IsFullPlan plan → AreHeld plan → AreRows plan rows → w0 ≡ replicate n 0 → HasRoom plan (length w2)

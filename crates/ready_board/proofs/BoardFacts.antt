@@ -1,7 +1,7 @@
 -- What the calls of a board owe.
 use Rattle.std.proofs.Common.{◌≡◌, ℕ, suc, ◌<◌, ◌≤◌, ◌||◌, List, [], ◌∷◌, length, map, take, get_or, sym, refl, ap, ◌∙◌, subst, arith, false, true, Bool}
 use Rattle.std.proofs.lemmas.List.{get_or_default}
-use Rattle.std.proofs.lemmas.Bool.{and_parts}
+use Rattle.std.proofs.lemmas.Bool.{and_parts, or_left, or_right}
 use Rattle.std.specs.Prelude.{is_some}
 use Rattle.txn_types.specs.declared.txn.Txn.{Txn}
 use Rattle.txn_types.specs.Values.{max_value}
@@ -20,7 +20,7 @@ use Rattle.ready_board.specs.Boards.{IsPassOf, Standing}
 use Rattle.ready_board.specs.Seen.{Seen}
 use Rattle.board_work.specs.Scripts.{script, reads_at, writes_at, outcome_at, meant_at, state_before, uses_at, AreHeld}
 use Rattle.script_laws.specs.Laws.{IsFullPlan}
-use Rattle.script_laws.proofs.Sound.{own_below, used_below, or_second, runs_comes}
+use Rattle.script_laws.proofs.Sound.{own_below, used_below, runs_comes}
 use Rattle.txn_types.specs.declared.txn.Outcome.{Outcome}
 use Rattle.std.specs.Prelude.{Some}
 use Rattle.script_laws.proofs.States.{serial_is}
@@ -46,17 +46,13 @@ plan_is a b e = ap (λ z. told z.about) e
 pub pass_plan : (a b : Standing) (p q : Seen) → p ≡ q → IsPassOf b q → a ≡ b → told p.about ≡ told a.about
 pass_plan a b p q pass of board = ap (λ z. told z.about) pass ∙ (of.plan ∙ sym (plan_is a b board))
 
-or_one : (a b : Bool) → a ≡ true → (a || b) ≡ true
-or_one true b e = refl
-or_one false b e = absurd (cc)
-
 pub read_of : (plan : Plan) (t k : ℕ) (rs : List ℕ) → IsFullPlan plan → rs ≡ reads_at plan t → k < length rs → (get_or rs k 0 < length plan.table.records) × Uses (script plan) t (get_or rs k 0)
 read_of plan t k rs h e l =
-    let u : uses_at plan t (get_or rs k 0) ≡ true = or_one (contains (reads_at plan t) (get_or rs k 0)) (contains (writes_at plan t) (get_or rs k 0)) (subst (λ xs. contains xs (get_or rs k 0) ≡ true) e (contains_at rs k l)) in
+    let u : uses_at plan t (get_or rs k 0) ≡ true = or_left (contains (reads_at plan t) (get_or rs k 0)) (contains (writes_at plan t) (get_or rs k 0)) (subst (λ xs. contains xs (get_or rs k 0) ≡ true) e (contains_at rs k l)) in
     (used_below plan h t (get_or rs k 0) u, u)
 
 pub write_of : (plan : Plan) (t k : ℕ) (ws : List ℕ) → IsFullPlan plan → ws ≡ writes_at plan t → k < length ws → get_or ws k 0 < length plan.table.records
-write_of plan t k ws h e l = used_below plan h t (get_or ws k 0) (or_second (contains (reads_at plan t) (get_or ws k 0)) (contains (writes_at plan t) (get_or ws k 0)) (subst (λ xs. contains xs (get_or ws k 0) ≡ true) e (contains_at ws k l)))
+write_of plan t k ws h e l = used_below plan h t (get_or ws k 0) (or_right (contains (reads_at plan t) (get_or ws k 0)) (contains (writes_at plan t) (get_or ws k 0)) (subst (λ xs. contains xs (get_or ws k 0) ≡ true) e (contains_at ws k l)))
 
 each_is : (f : ℕ → ℕ) (rs out : List ℕ) → length rs ≤ length out → ((k : ℕ) → k < length rs → get_or out k 0 ≡ f (get_or rs k 0)) → take (length rs) out ≡ map f rs
 each_is f [] out l h = refl

@@ -11,6 +11,7 @@ use Rattle.board_core.specs.Traces.{IsTrace}
 use Rattle.script_laws.specs.Placed.{span_of_run, with_run, placed}
 use Rattle.script_laws.proofs.Traced.{run_own, run_other, traces_law}
 use Rattle.trace_laws.proofs.Members.{Has, has_cases, all_of}
+use Rattle.trace_laws.proofs.RunOutcomes.{length_run_outcomes, run_outcomes_at}
 use Rattle.std.specs.Prelude.{is_some}
 use Rattle.std.proofs.lemmas.Bool.{and_from, and_parts, cases_Bool}
 use mathlib.Core.Option.{some}
@@ -62,24 +63,13 @@ word_is q s id v h at last t k own l = go (outcome_at q t) refl
 pub cells_long : (q : Plan) (t : ℕ) (cells : List (Option ℕ)) → IsFullPlan q → is_own q t ≡ true → outcome_at q t ≡ Some (Commit cells) → length cells ≡ length (writes_at q t)
 cells_long q t cells h own e = fits_long (txn_at q.txns t) (Commit cells) cells (outcome_fits q h.lawful t (Commit cells) (own_below q h t own) e) refl
 
--- what a run gives each position
-length_upto : (q : Plan) (n : ℕ) → length (run_outcomes_upto q n) ≡ n
-length_upto q zero = refl
-length_upto q (suc n) = let a = length-append (run_outcomes_upto q n) (run_outcome q n ∷ []) in let b = length_upto q n in omega arith
-
-at_upto : (q : Plan) (n t : ℕ) → t < n → get_or (run_outcomes_upto q n) t None ≡ run_outcome q t
-at_upto q zero t l = absurd (omega arith)
-at_upto q (suc n) t l = let len = length_upto q n in dite (ℕ_discrete t n)
-    (λ e. get_or_push (run_outcomes_upto q n) (run_outcome q n) None t (omega arith) ∙ ap (run_outcome q) (sym e))
-    (λ ne. get_or_append_left (run_outcomes_upto q n) (run_outcome q n ∷ []) None t (omega arith) ∙ at_upto q n t (omega arith))
-
 -- the outcomes that were read are those that a run gives
 pub outcomes_are : (q : Plan) (outcomes : List (Option Outcome)) → IsFullPlan q → length outcomes ≡ length q.txns → ((t : ℕ) → t < length q.txns → get_or outcomes t None ≡ cond (is_own q t) (outcome_at q t) None) → outcomes ≡ run_outcomes q
-outcomes_are q outcomes h long each = ext_get_or None outcomes (run_outcomes q) (long ∙ sym (length_upto q (length q.txns)))
+outcomes_are q outcomes h long each = ext_get_or None outcomes (run_outcomes q) (long ∙ sym (length_run_outcomes q (length q.txns)))
     (λ t l. each t (omega arith) ∙ (⊎_elim
     (λ own. ap (λ b. cond b (outcome_at q t) None) own ∙ sym (run_own q h t own))
     (λ other. ap (λ b. cond b (outcome_at q t) None) other ∙ sym (run_other q h t (omega arith) other))
-    (cases_Bool (is_own q t)) ∙ sym (at_upto q (length q.txns) t (omega arith))))
+    (cases_Bool (is_own q t)) ∙ sym (run_outcomes_at q (length q.txns) t (omega arith))))
 
 places : (v : View) (run_at : ℕ → Option Run) → ((t : ℕ) (r : Run) → run_at t ≡ Some r → 0 < times r.1 v.numbers) → (m : ℕ) (s : Span) → Has s (placed run_at m) → (r : Run) × (s ≡ span_of_run r) × (0 < times r.1 v.numbers)
 places v run_at each zero s has = absurd has

@@ -1,5 +1,5 @@
 -- The first pass: its duties are the own positions all of whose predecessors are known.
-use Rattle.std.proofs.Common.{◌≡◌, ℕ, true, false, ⊎_elim, length, take, sym, refl, ap, ◌∙◌, subst, arith, Option, Some, None}
+use Rattle.std.proofs.Common.{◌≡◌, ℕ, true, false, ⊎_elim, length, take, get_or, sym, refl, ap, ◌∙◌, subst, arith, Option, Some, None}
 use Rattle.std.specs.Prelude.{is_some, nat_lt, Result, IfOk}
 use Rattle.std.specs.declared.result.Result.TheVariants.{Ok, Err}
 use mathlib.Core.Logic.{dite}
@@ -16,7 +16,10 @@ use Rattle.board_core.proofs.Totals.{below_lt, below_zero}
 use Rattle.board_work.specs.PassStates.{AreReady, IsFirst, fresh_state}
 use Rattle.board_work.specs.Scripts.{script, waits}
 use Rattle.script_laws.specs.Laws.{IsFullPlan}
-use Rattle.script_laws.proofs.Sound.{own_below, edge_is, edge_of, knows_at, knows_from}
+use Rattle.script_laws.proofs.Sound.{own_below, edge_is, edge_of}
+use Rattle.trace_laws.proofs.Entries.{some_of, none_of}
+use Rattle.trace_laws.proofs.Known.{knows_from}
+use Rattle.trace_laws.proofs.Plans.{knows_at}
 use Rattle.board_steps.specs.Abouts.{told}
 use Rattle.ready_board.specs.Boards.{Standing, IsPassOf, board_home}
 use Rattle.ready_board.specs.Seen.{Seen, state_of_view, pass_state}
@@ -27,26 +30,22 @@ pub both_ok : {T E : Type 0} (r : Result T E) (P Q : T → Type 0) → IfOk r P 
 both_ok (Ok x) P Q p q = (p, q)
 both_ok (Err e) P Q p q = tt
 
-none_of : (o : Option Outcome) → is_some o ≡ false → o ≡ None
-none_of (Some x) e = absurd (false≢true (sym e))
-none_of None e = refl
-
 module _ (plan : Plan) (h : IsFullPlan plan) where
   -- what waits for none has all its predecessors known
   waits_for_none : (t : ℕ) → is_own plan t ≡ true → planned (script plan) t ≡ 0 → knows_all plan.table.kind (txn_at plan.txns t) plan.txns (take t plan.known) ≡ true
   waits_for_none t own zero_need = let l = own_below plan h t own in let long = h.lawful.known_long in let len = length-take-le t plan.known (omega arith) in
-      knows_from plan.table.kind (txn_at plan.txns t) plan.txns (take t plan.known) (λ s a b d.
-      ⊎_elim (λ known. subst (λ o. is_some o ≡ true) (sym (get_or-take t plan.known s None (omega arith))) known)
+      knows_from plan.table.kind (txn_at plan.txns t) plan.txns (take t plan.known) (λ s a b d. some_of (get_or (take t plan.known) s None)
+      (⊎_elim (λ known. subst (λ o. is_some o ≡ true) (sym (get_or-take t plan.known s None (omega arith))) known)
       (λ unknown. absurd (let e = edge_of plan h s t own (none_of (known_at plan s) unknown) (and_from (nat_lt s t) (depends plan.table.kind (txn_at plan.txns s) (txn_at plan.txns t)) (lt-ltb s t (omega arith)) d) in
-      let more = below_lt (length plan.txns) s (λ x. 0) (λ x. one_if (waits plan x t)) b (λ x k. omega arith) e in omega arith))
-      (cases_Bool (is_some (known_at plan s))))
+      let more = below_lt (length plan.txns) s (λ x. 0) (λ x. one_if (waits plan x t)) a (λ x k. omega arith) e in omega arith))
+      (cases_Bool (is_some (known_at plan s)))))
 
   known_waits_none : (t : ℕ) → is_own plan t ≡ true → knows_all plan.table.kind (txn_at plan.txns t) plan.txns (take t plan.known) ≡ true → planned (script plan) t ≡ 0
   known_waits_none t own knows = let l = own_below plan h t own in let long = h.lawful.known_long in let len = length-take-le t plan.known (omega arith) in
       below_zero (length plan.txns) (λ s. one_if (waits plan s t)) (λ s ls. dite (ℕ_discrete (one_if (waits plan s t)) 0) (λ z. z) (λ n. absurd (
       let e = edge_is plan h s t (omega arith) in let lt = e.2 in
-      let some = knows_at plan.table.kind (txn_at plan.txns t) plan.txns (take t plan.known) s knows (omega arith) ls e.3 in
-      false≢true (sym (ap is_some e.1) ∙ subst (λ o. is_some o ≡ true) (get_or-take t plan.known s None lt) some))))
+      let some = knows_at plan.table.kind (txn_at plan.txns t) plan.txns (take t plan.known) s ls (omega arith) knows e.3 in
+      false≢true (sym (ap is_some e.1) ∙ subst (λ o. is_some o ≡ true) (get_or-take t plan.known s None lt) (ap is_some some.1)))))
 
   pub duties_are_ready : AreReady plan (ready_below (length plan.txns) (script plan))
   duties_are_ready t = (

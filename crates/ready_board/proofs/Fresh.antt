@@ -1,6 +1,7 @@
 -- The fields of a pass that has done nothing.
 use Rattle.std.proofs.Common.{◌≡◌, ℕ, false, ◌<◌, List, [], length, replicate, get_or, sym, refl, ap, ◌∙◌, subst, arith, Bool, Option, Some, None}
 use Rattle.std.proofs.lemmas.List.{length-replicate}
+use Rattle.std.proofs.lemmas.Option.{none-some}
 use Rattle.board_core.specs.declared.view.View.{View}
 use Rattle.board_core.specs.Counts.{Run, times}
 use Rattle.board_core.specs.Script.{Script, IsOwn}
@@ -9,7 +10,8 @@ use Rattle.board_core.specs.Passes.{AreFlags, Fits, IsSettled}
 use Rattle.board_core.proofs.Totals.{hit_same}
 use Rattle.board_work.specs.declared.plan.Span.{Span}
 use Rattle.board_words.specs.Runs.{run_of, run_at}
-use Rattle.board_words.proofs.Opens.{ready_low, all_same}
+use Rattle.board_words.proofs.Opens.{ready_low}
+use Rattle.trace_laws.proofs.Entries.{all_same}
 
 pub fresh_fits : (k passes : ℕ) (duties : List ℕ) (duty tried : List Bool) (begins : List ℕ) (runs : ℕ → Option Run) → (length tried ≡ length duty) × (length begins ≡ length duty) → AreFlags duties duty → ((t : ℕ) → get_or tried t false ≡ false) → ((t : ℕ) → get_or begins t 0 ≡ 0) → ((t : ℕ) → runs t ≡ None)
     → Fits (fresh k passes duties) duty tried begins runs
@@ -23,9 +25,6 @@ fresh_fits k passes duties duty tried begins runs long flags untried unbegun unr
   run = λ t r is. absurd (none-some r (sym (unrun t) ∙ is));
   has_run = λ t pos. absurd (omega arith);
 }
-  where
-    none-some : (r : Run) → None ≡ Some r → ⊥
-    none-some r e = absurd (cc)
 
 pub fresh_settled : (p : Script) (k passes : ℕ) (duties : List ℕ) → ((t : ℕ) → 0 < times t duties → IsOwn p t) → IsSettled p (fresh k passes duties)
 fresh_settled p k passes duties own = record { counted = λ s t pos. absurd (omega arith); unwritten = λ t z. refl; runs = λ t pos. absurd (omega arith); duties_own = own; taken_begun = λ t pos. absurd (omega arith); spans = record { numbered = λ r never. absurd never; begun = λ r never. absurd never; finished = λ r never. absurd never; each = λ t. refl } }

@@ -18,6 +18,7 @@ use Rattle.txn_core.proofs.StateLemmas.{fit_length, fit_entry}
 use Rattle.board_defs.specs.Closure.{IsLawfulPlan}
 use Rattle.board_work.specs.Scripts.{apply_known, outcome_at, state_before}
 use Rattle.script_laws.proofs.States.{after_nothing, after_known-push, comes_at, outcome_is}
+use Rattle.trace_laws.proofs.Entries.{has_place}
 use Rattle.trace_laws.proofs.Plans.{length_closure}
 
 module _ (plan : Plan) (h : IsLawfulPlan plan) where
@@ -58,15 +59,10 @@ fits_long t o cells fit e = fit_length t.writes cells (subst (Fits t) e fit)
 
 pub fits_small : (t : Txn) (o : Outcome) (cells : List (Option ℕ)) → Fits t o → o ≡ Commit cells → (j x : ℕ) → get_or cells j None ≡ Some x → x < 4611686018427387904
 fits_small t o cells fit e j x at = let fine = subst (Fits t) e fit in
-    let v = value_of (get_or cells j None) x at (fit_entry t.writes cells j None fine (within cells j x at)) in omega arith
+    let v = value_of (get_or cells j None) x at (fit_entry t.writes cells j None fine (has_place cells j x at)) in omega arith
   where
     value_of : (o : Option ℕ) (x : ℕ) → o ≡ Some x → IfSome o IsValue → x ≤ max_value
     value_of o x e v = subst (λ (y : Option ℕ). IfSome y IsValue) e v
-
-    within : (cells : List (Option ℕ)) (j x : ℕ) → get_or cells j None ≡ Some x → j < length cells
-    within [] j x e = absurd (cc)
-    within (c ∷ cells) zero x e = omega arith
-    within (c ∷ cells) (suc j) x e = let a = within cells j x e in omega arith
 
 pub value_small : (s : State) (r : ℕ) → IsState s → value_in s r ≤ max_value
 value_small s r is = go (map.get s r) refl

@@ -4,8 +4,8 @@ use Rattle.std.specs.Prelude.{is_some, nat_lt}
 use mathlib.Core.Logic.{dite}
 use native.Mathlib.Decide.{ℕ_discrete, dec_lt}
 use Rattle.std.specs.List.{AllByRecursion}
-use Rattle.std.proofs.lemmas.List.{get_or-take, length-take-le}
-use Rattle.std.proofs.lemmas.Bool.{false≢true, ltb-true, lt-ltb, eqb-true, and_parts, and_from, or_cases, cases_Bool}
+use Rattle.std.proofs.lemmas.List.{get_or_past, get_or-take, length-take-le}
+use Rattle.std.proofs.lemmas.Bool.{false≢true, ltb-true, lt-ltb, eqb-true, and_parts, and_from, not-true, or_cases, or_left, or_right, cases_Bool}
 use Rattle.txn_types.specs.declared.txn.Kind.{Kind}
 use Rattle.txn_types.specs.declared.txn.Outcome.{Outcome}
 use Rattle.txn_types.specs.declared.txn.Outcome.TheVariants.{Abort, Commit}
@@ -20,46 +20,22 @@ use Rattle.board_core.specs.Traces.{one_if}
 use Rattle.script_laws.specs.Laws.{IsFullPlan}
 use Rattle.board_work.specs.Scripts.{AreHeld, reads_at, writes_at, outcome_at, is_edge, given, gives, later, waits, uses_at, script}
 use Rattle.script_laws.proofs.States.{at_earlier, outcome_is}
-use Rattle.trace_laws.proofs.Plans.{length_closure}
+use Rattle.trace_laws.proofs.Entries.{some_of, none_of}
+use Rattle.trace_laws.proofs.Known.{knows_from}
+use Rattle.trace_laws.proofs.Plans.{length_closure, knows_at}
 
 -- LISTS
-
-pub past : {A : Type 0} (xs : List A) (k : ℕ) (d : A) → length xs ≤ k → get_or xs k d ≡ d
-past [] k d l = refl
-past (x ∷ xs) zero d l = absurd (omega arith)
-past (x ∷ xs) (suc k) d l = past xs k d (omega arith)
 
 pub within : {A : Type 0} (xs : List A) (k : ℕ) (d e : A) (f : A → Bool) → f d ≡ false → f (get_or xs k d) ≡ true → k < length xs
 within xs k d e f no_d h = go (dec_lt k (length xs))
   where
     go : Dec (k < length xs) → k < length xs
     go (yes l) = l
-    go (no n) = absurd (false≢true (sym no_d ∙ (ap f (sym (past xs k d (omega arith))) ∙ h)))
-
--- it is wherever the test of its number is yes
-or_first : (a b : Bool) → a ≡ true → (a || b) ≡ true
-or_first true b e = refl
-or_first false b e = absurd (false≢true e)
-
-pub or_second : (a b : Bool) → b ≡ true → (a || b) ≡ true
-or_second true b e = refl
-or_second false b e = e
-
-none_or : (o : Option Outcome) → is_some o ≡ false → o ≡ None
-none_or (Some x) e = absurd (false≢true (sym e))
-none_or None e = refl
+    go (no n) = absurd (false≢true (sym no_d ∙ (ap f (sym (get_or_past xs k d (omega arith))) ∙ h)))
 
 not_some : (o : Option Outcome) → o ≡ None → is_some o ≡ true → ⊥
 not_some (Some x) e h = absurd (cc)
 not_some None e h = false≢true h
-
-not_is : (b : Bool) → not b ≡ true → b ≡ false
-not_is true e = absurd (false≢true e)
-not_is false e = refl
-
-not_of : (b : Bool) → b ≡ false → not b ≡ true
-not_of true e = absurd (false≢true (sym e))
-not_of false e = refl
 
 pub one_of : (b : Bool) → b ≡ true → 0 < one_if b
 one_of true e = omega arith
@@ -73,33 +49,11 @@ pub of_none : (b : Bool) → (b ≡ true → ⊥) → one_if b ≡ 0
 of_none true no_b = absurd (no_b refl)
 of_none false no_b = refl
 
--- KNOWING
-
-pub knows_at : (kind : Kind) (x : Txn) (ts : List Txn) (os : List (Option Outcome)) (s : ℕ) → knows_all kind x ts os ≡ true → s < length os → s < length ts → depends kind (txn_at ts s) x ≡ true → is_some (get_or os s None) ≡ true
-knows_at kind x [] os s h a b d = absurd (omega arith)
-knows_at kind x (t ∷ ts) [] s h a b d = absurd (omega arith)
-knows_at kind x (t ∷ ts) (o ∷ os) zero h a b d = go (depends kind t x) d (and_parts (not (depends kind t x) || is_some o) (knows_all kind x ts os) h).0
-  where
-    go : (e : Bool) → e ≡ true → (not e || is_some o) ≡ true → is_some o ≡ true
-    go true _ p = p
-    go false z p = absurd (false≢true z)
-knows_at kind x (t ∷ ts) (o ∷ os) (suc s) h a b d = knows_at kind x ts os s (and_parts (not (depends kind t x) || is_some o) (knows_all kind x ts os) h).1 (omega arith) (omega arith) d
-
-pub knows_from : (kind : Kind) (x : Txn) (ts : List Txn) (os : List (Option Outcome)) → ((s : ℕ) → s < length os → s < length ts → depends kind (txn_at ts s) x ≡ true → is_some (get_or os s None) ≡ true) → knows_all kind x ts os ≡ true
-knows_from kind x [] os h = refl
-knows_from kind x (t ∷ ts) [] h = refl
-knows_from kind x (t ∷ ts) (o ∷ os) h = and_from (not (depends kind t x) || is_some o) (knows_all kind x ts os)
-    (go (depends kind t x) refl) (knows_from kind x ts os (λ s a b d. h (suc s) (omega arith) (omega arith) d))
-  where
-    go : (e : Bool) → depends kind t x ≡ e → (not e || is_some o) ≡ true
-    go true e = h 0 (omega arith) (omega arith) e
-    go false e = refl
-
 -- RECORDS
 
 meets_from : (r : ℕ) (xs ys : List ℕ) → contains xs r ≡ true → contains ys r ≡ true → meets xs ys ≡ true
 meets_from r [] ys a b = absurd (false≢true a)
-meets_from r (x ∷ xs) ys a b = ⊎_elim (λ e. or_first (contains ys x) (meets xs ys) (subst (λ q. contains ys q ≡ true) (eqb-true r x e) b)) (λ e. or_second (contains ys x) (meets xs ys) (meets_from r xs ys e b)) (or_cases (r == x) (contains xs r) a)
+meets_from r (x ∷ xs) ys a b = ⊎_elim (λ e. or_left (contains ys x) (meets xs ys) (subst (λ q. contains ys q ≡ true) (eqb-true r x e) b)) (λ e. or_right (contains ys x) (meets xs ys) (meets_from r xs ys e b)) (or_cases (r == x) (contains xs r) a)
 
 pub given_is : (ws : List ℕ) (cells : List (Option ℕ)) (r : ℕ) → is_some (given ws cells r) ≡ true → contains ws r ≡ true
 given_is [] cells r h = absurd (false≢true h)
@@ -107,7 +61,7 @@ given_is (w ∷ ws) [] r h = absurd (false≢true h)
 given_is (w ∷ ws) (c ∷ cells) r h = go (given ws cells r) (given_is ws cells r) (r == w) h
   where
     go : (g : Option ℕ) → (is_some g ≡ true → contains ws r ≡ true) → (b : Bool) → is_some (later g (cond b c None)) ≡ true → (b || contains ws r) ≡ true
-    go (Some x) i b e = or_second b (contains ws r) (i refl)
+    go (Some x) i b e = or_right b (contains ws r) (i refl)
     go None i true e = refl
     go None i false e = absurd (false≢true e)
 
@@ -115,9 +69,6 @@ pub gives_is : (o : Option Outcome) (ws : List ℕ) (r : ℕ) → is_some (gives
 gives_is (Some (Commit cells)) ws r h = given_is ws cells r h
 gives_is (Some (Abort why)) ws r h = absurd (false≢true h)
 gives_is None ws r h = absurd (false≢true h)
-
-some_is : (o : Option ℕ) (x : ℕ) → o ≡ Some x → is_some o ≡ true
-some_is o x e = ap is_some e
 
 in_all : (P : ℕ → Type 0) (xs : List ℕ) (r : ℕ) → AllByRecursion P xs → contains xs r ≡ true → P r
 in_all P [] r all h = absurd (false≢true h)
@@ -127,7 +78,7 @@ module _ (plan : Plan) (h : IsFullPlan plan) where
   -- an edge of the graph of kind full
   full_edge : (s t : ℕ) → s < t → (meets (reads_at plan s) (writes_at plan t) ≡ true) ⊎ ((meets (writes_at plan s) (reads_at plan t) ≡ true) ⊎ (meets (writes_at plan s) (writes_at plan t) ≡ true)) → is_edge plan s t ≡ true
   full_edge s t l m = and_from (nat_lt s t) (depends plan.table.kind (txn_at plan.txns s) (txn_at plan.txns t)) (lt-ltb s t l) (subst (λ k. depends k (txn_at plan.txns s) (txn_at plan.txns t) ≡ true) (sym (h.full))
-      (⊎_elim (λ a. or_first (rw_ || rr_) ww_ (or_first rw_ rr_ a)) (⊎_elim (λ a. or_first (rw_ || rr_) ww_ (or_second rw_ rr_ a)) (λ a. or_second (rw_ || rr_) ww_ a)) m))
+      (⊎_elim (λ a. or_left (rw_ || rr_) ww_ (or_left rw_ rr_ a)) (⊎_elim (λ a. or_left (rw_ || rr_) ww_ (or_right rw_ rr_ a)) (λ a. or_right (rw_ || rr_) ww_ a)) m))
     where
       rw_ : Bool
       rw_ = meets (reads_at plan s) (writes_at plan t)
@@ -143,7 +94,7 @@ module _ (plan : Plan) (h : IsFullPlan plan) where
       let a = and_parts (is_own plan t) (not (is_some (known_at plan s)) && is_edge plan s t) (of_one (waits plan s t) pos) in
       let b = and_parts (not (is_some (known_at plan s))) (is_edge plan s t) a.1 in
       let c = and_parts (nat_lt s t) (depends plan.table.kind (txn_at plan.txns s) (txn_at plan.txns t)) b.1 in
-      (a.0, none_or (known_at plan s) (not_is (is_some (known_at plan s)) b.0), ltb-true s t c.0, c.1)
+      (a.0, none_of (known_at plan s) (not-true (is_some (known_at plan s)) b.0), ltb-true s t c.0, c.1)
 
   pub edge_of : (s t : ℕ) → is_own plan t ≡ true → known_at plan s ≡ None → is_edge plan s t ≡ true → 0 < one_if (waits plan s t)
   edge_of s t own unknown e = one_of (waits plan s t) (and_from (is_own plan t) (not (is_some (known_at plan s)) && is_edge plan s t) own
@@ -193,10 +144,10 @@ module _ (plan : Plan) (h : IsFullPlan plan) where
   runs_where : (t : ℕ) → is_own plan t ≡ true → ((s : ℕ) → 0 < one_if (waits plan s t) → Runs (script plan) s) → Runs (script plan) t
   runs_where t own each =
       let l = own_below t own in let u = h.lawful.own_unknown t own in let len = length_closure plan t in
-      let k = knows_from plan.table.kind (txn_at plan.txns t) plan.txns (closure_upto plan t) (λ s a b d. subst (λ o. is_some o ≡ true) (sym (at_earlier plan t s (omega arith) (omega arith)))
+      let k = knows_from plan.table.kind (txn_at plan.txns t) plan.txns (closure_upto plan t) (λ s a b d. some_of (get_or (closure_upto plan t) s None) (subst (λ o. is_some o ≡ true) (sym (at_earlier plan t s (omega arith) (omega arith)))
       (⊎_elim (λ known. subst (λ o. is_some o ≡ true) (sym (known_is s known)) known)
-      (λ unknown. (and_parts (is_own plan s) (is_some (outcome_at plan s)) (each s (edge_of s t own (none_or (known_at plan s) unknown) (and_from (nat_lt s t) (depends plan.table.kind (txn_at plan.txns s) (txn_at plan.txns t)) (lt-ltb s t (omega arith)) d)))).1)
-      (cases_Bool (is_some (known_at plan s))))) in
+      (λ unknown. (and_parts (is_own plan s) (is_some (outcome_at plan s)) (each s (edge_of s t own (none_of (known_at plan s) unknown) (and_from (nat_lt s t) (depends plan.table.kind (txn_at plan.txns s) (txn_at plan.txns t)) (lt-ltb s t (omega arith)) d)))).1)
+      (cases_Bool (is_some (known_at plan s)))))) in
       and_from (is_own plan t) (is_some (outcome_at plan t)) own (ap is_some (unknown_comes t l u ∙ cond_some (can t) (run_of plan t (closure_upto plan t)) (and_from (is_own plan t) (knows_all plan.table.kind (txn_at plan.txns t) plan.txns (closure_upto plan t)) own k)))
 
   runs_only : (t : ℕ) → Runs (script plan) t → (is_own plan t ≡ true) × ((s : ℕ) → 0 < one_if (waits plan s t) → Runs (script plan) s)
@@ -206,7 +157,7 @@ module _ (plan : Plan) (h : IsFullPlan plan) where
       let k = (and_parts (is_own plan t) (knows_all plan.table.kind (txn_at plan.txns t) plan.txns (closure_upto plan t)) (has_run t l u p.1)).1 in (
         p.0,
         λ s pos. let e = edge_is s t pos in let lt = e.2 in
-            let some = subst (λ o. is_some o ≡ true) (at_earlier plan t s lt (omega arith)) (knows_at plan.table.kind (txn_at plan.txns t) plan.txns (closure_upto plan t) s k (omega arith) (omega arith) e.3) in
+            let some = subst (λ o. is_some o ≡ true) (at_earlier plan t s lt (omega arith)) (ap is_some (knows_at plan.table.kind (txn_at plan.txns t) plan.txns (closure_upto plan t) s (omega arith) (omega arith) k e.3).1) in
             let c = has_run s (omega arith) e.1 some in
             and_from (is_own plan s) (is_some (outcome_at plan s)) (and_parts (is_own plan s) (knows_all plan.table.kind (txn_at plan.txns s) plan.txns (closure_upto plan s)) c).0 some,
       )
@@ -220,7 +171,7 @@ module _ (plan : Plan) (h : IsFullPlan plan) where
 
       go : Dec (t < length plan.txns) → Both (txn_at plan.txns t)
       go (yes l) = let a = h.lawful.txns t no_txn l in (a.reads, a.writes)
-      go (no n) = subst Both (sym (past plan.txns t no_txn (omega arith))) (tt, tt)
+      go (no n) = subst Both (sym (get_or_past plan.txns t no_txn (omega arith))) (tt, tt)
 
   pub used_below : (t r : ℕ) → uses_at plan t r ≡ true → r < length plan.table.records
   used_below t r u = ⊎_elim (in_all (IsRecord plan.table) (reads_at plan t) r (lawful_at t).0) (in_all (IsRecord plan.table) (writes_at plan t) r (lawful_at t).1) (or_cases (contains (reads_at plan t) r) (contains (writes_at plan t) r) u)
@@ -241,13 +192,9 @@ module _ (plan : Plan) (h : IsFullPlan plan) where
       let c = and_parts (nat_lt t s) (depends plan.table.kind (txn_at plan.txns t) (txn_at plan.txns s)) e in
       let l = ltb-true t s c.0 in let below = known_below s known in let len = h.lawful.known_long in
       let a = length-take-le s plan.known (omega arith) in
-      let is = some_is_some (known_at plan s) known in
-      let k = knows_at plan.table.kind (txn_at plan.txns s) plan.txns (take s plan.known) t (h.lawful.known_closed s is.0 is.1) (omega arith) (omega arith) c.1 in
-      subst (λ o. is_some o ≡ true) (get_or-take s plan.known t None l) k
-    where
-      some_is_some : (o : Option Outcome) → is_some o ≡ true → (x : Outcome) × (o ≡ Some x)
-      some_is_some (Some x) e = (x, refl)
-      some_is_some None e = absurd (false≢true e)
+      let is = some_of (known_at plan s) known in
+      let k = knows_at plan.table.kind (txn_at plan.txns s) plan.txns (take s plan.known) t (omega arith) (omega arith) (h.lawful.known_closed s is.0 is.1) c.1 in
+      subst (λ o. is_some o ≡ true) (get_or-take s plan.known t None l) (ap is_some k.1)
 
   pub sound : AreHeld plan → IsSound (script plan)
   sound held = record {
@@ -258,10 +205,10 @@ module _ (plan : Plan) (h : IsFullPlan plan) where
     edge_is_forward = λ s t pos. let e = edge_is s t pos in (e.2, e.0);
     parts_few = λ t. let w = held.writes t in omega arith;
     used_is_record = used_below;
-    gives_is_use = λ t r g. or_second (contains (reads_at plan t) r) (contains (writes_at plan t) r) (writes_of t r (ap is_some g.1));
+    gives_is_use = λ t r g. or_right (contains (reads_at plan t) r) (contains (writes_at plan t) r) (writes_of t r (ap is_some g.1));
     before = λ s t r own l g u. let w = writes_of s r (ap is_some g.1) in
         ⊎_elim (λ known. inl (one_of (is_some (known_at plan s) && is_some (gives (outcome_at plan s) (writes_at plan s) r)) (and_from (is_some (known_at plan s)) (is_some (gives (outcome_at plan s) (writes_at plan s) r)) known (ap is_some g.1))))
-        (λ unknown. inr (edge_of s t own (none_or (known_at plan s) unknown) (writer_before s t r l w u))) (cases_Bool (is_some (known_at plan s)));
+        (λ unknown. inr (edge_of s t own (none_of (known_at plan s) unknown) (writer_before s t r l w u))) (cases_Bool (is_some (known_at plan s)));
     later_unknown = λ s t r own l u. of_none (is_some (known_at plan s) && is_some (gives (outcome_at plan s) (writes_at plan s) r)) (λ b. let p = and_parts (is_some (known_at plan s)) (is_some (gives (outcome_at plan s) (writes_at plan s) r)) b in
         dite (ℕ_discrete s t) (λ e. not_some (known_at plan s) (h.lawful.own_unknown s (subst (λ x. is_own plan x ≡ true) (sym e) own)) p.0)
         (λ ne. not_some (known_at plan t) (h.lawful.own_unknown t own) (known_closed t s (writer_after t s r (omega arith) u (writes_of s r p.1)) p.0)));

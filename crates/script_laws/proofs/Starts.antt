@@ -3,7 +3,8 @@ use Rattle.std.proofs.Common.{◌≡◌, ℕ, zero, suc, Bool, true, false, ◌&
 use Rattle.std.specs.Prelude.{is_some}
 use mathlib.Core.Logic.{dite}
 use native.Mathlib.Decide.{ℕ_discrete, dec_lt}
-use Rattle.std.proofs.lemmas.Bool.{and_parts, and_from, cases_Bool}
+use Rattle.std.proofs.lemmas.List.{take_all}
+use Rattle.std.proofs.lemmas.Bool.{and_parts, and_from, or_right, cases_Bool}
 use Rattle.txn_types.specs.declared.txn.Outcome.{Outcome}
 use Rattle.oxii_defs.specs.State.{value_in, contains}
 use Rattle.known_defs.specs.Known.{after_known}
@@ -13,7 +14,7 @@ use Rattle.board_core.specs.Traces.{one_if}
 use Rattle.script_laws.specs.Laws.{IsFullPlan}
 use Rattle.board_work.specs.Scripts.{outcome_at, reads_at, writes_at, gives, script}
 use Rattle.script_laws.proofs.States.{value_after}
-use Rattle.script_laws.proofs.Sound.{known_is, known_below, known_closed, writer_before, gives_is, one_of, of_none, or_second}
+use Rattle.script_laws.proofs.Sound.{known_is, known_below, known_closed, writer_before, gives_is, one_of, of_none}
 
 -- the value after the known outcomes of the first m positions
 abbrev start_value : Plan → ℕ → ℕ → ℕ
@@ -78,7 +79,7 @@ module _ (plan : Plan) (h : IsFullPlan plan) where
       let before : (t : ℕ) → t < m → Gives (script plan) t r → 0 < early_at t r = (λ t lt gt.
       let w = gives_is (outcome_at plan t) (writes_at plan t) r (ap is_some gt.1) in
       let u = gives_is (outcome_at plan m) (writes_at plan m) r (ap is_some is) in
-      is_early t r (known_closed plan h t m (writer_before plan h t m r lt w (or_second (contains (reads_at plan m) r) (contains (writes_at plan m) r) u)) known) gt) in
+      is_early t r (known_closed plan h t m (writer_before plan h t m r lt w (or_right (contains (reads_at plan m) r) (contains (writes_at plan m) r) u)) known) gt) in
       record {
         cut = suc m;
         low = omega arith;
@@ -103,16 +104,10 @@ module _ (plan : Plan) (h : IsFullPlan plan) where
       go t a (yes l) = b.none_from t a l
       go t a (no n) = ⊎_elim (λ known. absurd (n (known_below plan h t known))) (λ e. not_early t r (inl e)) (cases_Bool (is_some (known_at plan t)))
 
-  take_all : {A : Type 0} (n : ℕ) (xs : List A) → length xs ≡ n → take n xs ≡ xs
-  take_all zero [] e = refl
-  take_all zero (x ∷ xs) e = absurd (omega arith)
-  take_all (suc n) [] e = absurd (omega arith)
-  take_all (suc n) (x ∷ xs) e = ap (λ ys. x ∷ ys) (take_all n xs (omega arith))
-
   -- a word that has the value of its record after the known outcomes
   pub starts : (r word : ℕ) → word ≡ value_in (after_known plan.base plan.txns plan.known) r → IsAfter (script plan) word (λ t. early_at t r) r
   starts r word e =
       let long = h.lawful.known_long in
       let b = begun_after r (begins (length plan.txns) r (omega arith)) in
-      let is : word ≡ start_value plan (length plan.txns) r = e ∙ (ap (λ os. value_in (after_known plan.base plan.txns os) r) (sym (take_all (length plan.txns) plan.known long)) ∙ value_after plan.base plan.txns plan.known (length plan.txns) r (omega arith) (omega arith)) in
+      let is : word ≡ start_value plan (length plan.txns) r = e ∙ (ap (λ os. value_in (after_known plan.base plan.txns os) r) (sym (take_all (length plan.txns) plan.known (omega arith))) ∙ value_after plan.base plan.txns plan.known (length plan.txns) r (omega arith) (omega arith)) in
       record { cut = b.cut; put_below = b.put_below; none_from = b.none_from; value_is = is ∙ b.value_is }

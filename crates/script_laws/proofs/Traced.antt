@@ -21,16 +21,9 @@ use Rattle.script_laws.specs.Laws.{IsFullPlan, IsLawfulClose, TracesAreLawful}
 use Rattle.script_laws.specs.Placed.{span_of_run, with_run, placed}
 use Rattle.script_laws.proofs.Sound.{own_below, edge_of, has_run}
 use Rattle.trace_laws.proofs.Counts.{times_span, stamps_append}
+use Rattle.trace_laws.proofs.Entries.{some_of}
 use Rattle.trace_laws.proofs.Members.{Has, has_of, contains_of, all_of, has_left, has_right, has_cases, has_map, map_has}
 use Rattle.trace_laws.proofs.Plans.{closes_law}
-
-some_of : (o : Option Outcome) → is_some o ≡ true → (x : Outcome) × (o ≡ Some x)
-some_of (Some x) e = (x, refl)
-some_of None e = absurd (false≢true e)
-
-run_some : (o : Option Run) → is_some o ≡ true → (r : Run) × (o ≡ Some r)
-run_some (Some r) e = (r, refl)
-run_some None e = absurd (false≢true e)
 
 -- a member of either kind
 among_has : (r : Run) (xs : List Run) → IsAmong r xs → Has r xs
@@ -80,7 +73,7 @@ module _ (plan : Plan) (h : IsFullPlan plan) where
     positions (suc m) l = go (positions m (omega arith)) (run_outcome plan m) refl
       where
         go : map (λ s. s.position) (placed run_at m) ≡ ran_upto plan m → (o : Option Outcome) → run_outcome plan m ≡ o → map (λ s. s.position) (with_run (placed run_at m) (run_at m)) ≡ with_position (ran_upto plan m) m (run_outcome plan m)
-        go old (Some o) e = let q = run_some (run_at m) (trace.ran m (gives_runs m o (omega arith) e)) in
+        go old (Some o) e = let q = some_of (run_at m) (trace.ran m (gives_runs m o (omega arith) e)) in
             ap (λ z. map (λ s. s.position) (with_run (placed run_at m) z)) q.1
             ∙ (map-append (λ s. s.position) (placed run_at m) (span_of_run q.0 ∷ [])
             ∙ ((λ i. old i ++ (trace.place m q.0 q.1).0 i ∷ []) ∙ sym (ap (with_position (ran_upto plan m) m) e)))

@@ -2,8 +2,7 @@
 use Rattle.std.specs.Prelude.{ℕ, suc, ◌≡◌, ◌<◌, ◌≤◌, Bool, true, false, not, ◌||◌, List, [], ◌∷◌, length, get_or, set, take, refl, ◌⊎◌, Option, Some, None, is_some}
 use Rattle.std.proofs.Common.{sym, ◌∙◌, ap, subst, inl, inr, arith, ⊎_elim}
 use Rattle.std.proofs.lemmas.Bool.{and_from, cases_lt}
-use Rattle.std.proofs.lemmas.Option.{none-some}
-use Rattle.std.proofs.lemmas.List.{length-take-le, get_or-take, get_or_past, get_or-set_same, get_or-set_other, length-set, take-set-le}
+use Rattle.std.proofs.lemmas.List.{length-take-le, get_or-take, get_or-set_same, get_or-set_other, length-set, take-set-le}
 use Rattle.txn_types.specs.declared.txn.Outcome.{Outcome}
 use Rattle.txn_types.specs.declared.txn.Kind.{Kind}
 use Rattle.txn_types.specs.declared.txn.Txn.{Txn}
@@ -11,6 +10,7 @@ use Rattle.oxii_defs.specs.Dependency.{depends}
 use Rattle.known_defs.specs.Known.{txn_at, knows_all}
 use Rattle.board_defs.specs.Closure.{Plan, known_at, comes_to, closure_upto, closure, unless_known}
 use Rattle.trace_laws.specs.Laws.{ClosureIsClosed, OneMoreKnown}
+use Rattle.trace_laws.proofs.Entries.{has_place}
 use Rattle.trace_laws.proofs.Plans.{length_closure, closure_at, knows_at, ran_knows}
 
 -- all is known, where each predecessor has an outcome
@@ -35,10 +35,6 @@ pub front_at : (kind : Kind) (txns : List Txn) (known : List (Option Outcome)) (
 front_at kind txns known t u h place l m d =
     let n = length-take-le t known place in
     let r = knows_at kind (txn_at txns t) txns (take t known) u m (omega arith) h d in (r.0, sym (get_or-take t known u None l) ∙ r.1)
-
--- only a place of the list has an outcome
-pub has_place : (xs : List (Option Outcome)) (t : ℕ) (o : Outcome) → get_or xs t None ≡ Some o → t < length xs
-has_place xs t o h = ⊎_elim (λ c. c) (λ c. absurd (none-some o (sym (get_or_past xs t None c) ∙ h))) (cases_lt t (length xs))
 
 kept : (plan : Plan) → length plan.known ≡ length plan.txns → (t : ℕ) (o : Outcome) → known_at plan t ≡ Some o → get_or (closure plan) t None ≡ Some o
 kept plan n t o h = let l = has_place plan.known t o h in

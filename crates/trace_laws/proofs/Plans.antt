@@ -4,7 +4,7 @@ use Rattle.std.specs.List.{AllPairs}
 use Rattle.std.proofs.Common.{sym, ◌∙◌, ap, subst, inl, arith, ⊎_elim}
 use Rattle.std.proofs.lemmas.Bool.{false≢true, and_parts, cases_lt}
 use Rattle.std.proofs.lemmas.Option.{none-some}
-use Rattle.std.proofs.lemmas.List.{length_push, get_or_append_left, get_or_push, get_or_past, get_or-take, length-take-le}
+use Rattle.std.proofs.lemmas.List.{length_push, get_or_append_left, get_or_push, get_or-take, length-take-le}
 use Rattle.txn_types.specs.declared.txn.Outcome.{Outcome}
 use Rattle.txn_types.specs.declared.txn.Kind.{Kind}
 use Rattle.txn_types.specs.declared.txn.Txn.{Txn}
@@ -13,6 +13,7 @@ use Rattle.known_defs.specs.Known.{txn_at, knows_all}
 use Rattle.board_defs.specs.Closure.{Plan, is_own, known_at, can_run, run_of, comes_to, closure_upto, closure, unless_known, run_outcome, with_position, ran_upto, ran_positions}
 use Rattle.board_defs.specs.Trace.{IsLawfulTrace}
 use Rattle.trace_laws.specs.Laws.{Round, IsLater, NextRounds, OneMoreRound, PlainCloses}
+use Rattle.trace_laws.proofs.Entries.{has_place}
 use Rattle.trace_laws.proofs.Members.{Has, has_of, has_cases, has_left, has_right, Up, of_up, up_push, all_of}
 use Rattle.trace_laws.proofs.Join.{joined_law}
 use Rattle.trace_laws.proofs.Plain.{plain_law}
@@ -139,7 +140,7 @@ more_law plan workers before all spans round lawful known so_far its union =
       apart = λ t i j. let k = known t i in known_rests plan t k.0 k.1 (has_of (ran_positions plan) t j);
       not_needed = λ t u i j l. either_depends plan.table.kind plan.txns u t (λ d.
           let k = known t i in let e = lawful.known_long in
-          let place = known_place plan t k.0 k.1 in
+          let place = has_place plan.known t k.0 k.1 in
           let q = knows_at plan.table.kind (txn_at plan.txns t) plan.txns (take t plan.known) u (omega arith) (front plan t u place l) (lawful.known_closed t k.0 k.1) d in
           known_rests plan u q.0 (sym (get_or-take t plan.known u None l) ∙ q.1) (has_of (ran_positions plan) u j));
     }))
@@ -152,9 +153,6 @@ more_law plan workers before all spans round lawful known so_far its union =
     pairs_two R x y r (suc i) zero d l m = absurd (omega arith)
     pairs_two R x y r (suc i) (suc zero) d l m = absurd (omega arith)
     pairs_two R x y r (suc i) (suc (suc j)) d l m = absurd (omega arith)
-
-    known_place : (plan : Plan) (t : ℕ) (o : Outcome) → known_at plan t ≡ Some o → t < length plan.known
-    known_place plan t o k = ⊎_elim (λ c. c) (λ c. absurd (none-some o (sym (get_or_past plan.known t None c) ∙ k))) (cases_lt t (length plan.known))
 
     front : (plan : Plan) (t u : ℕ) → t < length plan.known → u < t → u < length (take t plan.known)
     front plan t u c l = omega (arith, length-take-le t plan.known (omega arith), l)
