@@ -18,9 +18,10 @@ use crate::known::{copy_of, learn};
 use crate::rounds::Task;
 use board_work::{Own, Plan, Ran, Spans};
 use dep_graph::knows_preds;
+use ready_board::Board;
 use std::alloc::Global;
 use std::thread::Threads;
-use steal_pool::{Gate, burst_plain};
+use steal_pool::{Gate, burst};
 use txn_types::{Known, OutOfMemory, Outcome};
 
 /// Whether position `t` is ready: it is this peer's, it isn't known, and all that it depends on is.
@@ -94,7 +95,7 @@ fn run_plan<R: Threads + Sync, G: Gate>(
     ensures closed { IfOk result (λ ran. IsClosed (plan_of plan.now) workers ran.outcomes (map span_of ran.trace)) }
     ensures fit { IfOk result (λ ran. AllFitAt plan.now.block.now.txns ran.outcomes) }
 {
-    let ran = burst_plain(alloc, plan, gate)?;
+    let ran = burst::<Board, G, R>(rt, alloc, plan, workers, gate)?;
     Ok(ran)
 }
 
