@@ -16,7 +16,7 @@ ghost use Rattle.board_steps.specs.Abouts.{told, scripted, IsLaidOut, HasRoom};
 use crate::step::{Words, count_down, load_value, publish, write_value};
 use atomic_table::Seat;
 use board_core::View;
-use board_work::Made;
+use board_work::{Layout, Made};
 use std::marker::Brand;
 use txn_types::{Outcome, Reason, Txn};
 
@@ -147,8 +147,8 @@ fn write_entries(
     }
 }
 
-/// Writes each value that t gives, once all its words are published.
-pub fn write_all(
+// Writes each value that t gives, once all its words are published.
+fn write_all(
     words: &Words,
     records: &[u16],
     seat: &mut Seat<u8, View>,
@@ -171,6 +171,32 @@ pub fn write_all(
         Outcome::Commit(entries) => {
             write_entries(words, records, entries.as_slice(), seat, t);
         }
+    }
+}
+
+/// Writes each value that t gives, where the words keep values.
+pub fn write_kept(
+    words: &Words,
+    layout: Layout,
+    records: &[u16],
+    seat: &mut Seat<u8, View>,
+    t: usize,
+    outcome: &Outcome,
+)
+    requires seat { (seat.old.table_id ≡ words.now.table_id) × IsLive seat.old.me.0 }
+    requires place { HasRoom (told words.now.key) words.now.table_id.words × (t < length (told words.now.key).txns) }
+    requires records { (records.now ≡ writes_at (told words.now.key) t) × IsRising records.now × ((k : ℕ) → k < length records.now → slice_index records.now k < length (told words.now.key).table.records) }
+    requires held { (0 < times_first t seat.old.me.0.begins) × (times_first t seat.old.me.0.finishes ≡ 0) }
+    requires published { (k : ℕ) → k < (script (told words.now.key)).parts t → 0 < times_pair t k seat.old.me.0.published }
+    requires layout { IsLaidOut layout words.now.key }
+    requires meant { outcome_at (told words.now.key) t ≡ Some outcome.now }
+    ensures same { (seat.new.table_id ≡ seat.old.table_id) × (seat.new.id ≡ seat.old.id) × (seat.new.me.1 ≡ seat.old.me.1) }
+    ensures view { (seat.new.me.0 ≡ record seat.old.me.0 { written = seat.new.me.0.written }) × ((x : ℕ) → x ≢ t → times_first x seat.new.me.0.written ≡ times_first x seat.old.me.0.written) }
+    ensures written { (r : ℕ) → Gives (scripted words.now.key) t r → 0 < times_pair t r seat.new.me.0.written }
+{
+    match layout {
+        Layout::Values => write_all(words, records, seat, t, outcome),
+        Layout::Versions => {}
     }
 }
 
