@@ -97,6 +97,7 @@ splits p id v live few s h at = let vs = s.views in let w = splitting v in let u
         one_maker = makers;
       };
       cells = subst (Cells p (part s.words) (value s.words)) (sym (split_cells vs id v at)) h.cells;
+      fixed = h.fixed;
       numbers_below = λ i y e k pos. let all = split_numbers vs id v at k in
           let is : (k ≡ v.passes) ⊎ (0 < total (λ z. times k z.numbers) vs) = ⊎_elim (λ q. inl (sym q.0)) (λ q. let z = q.1 in inr (omega arith)) (hits k v.passes) in
           let low : k ≤ v.passes = ⊎_elim (λ e. omega arith) (λ q. let a = h.numbers_below id v at k q in omega arith) is in
@@ -169,6 +170,7 @@ merges p id other v u live s h at apart too = let vs = s.views in let w = joined
       stamps = subst (λ d. Stamps (p.size) (clock s.words) d (stamp_sums (set (set vs id w) other spent))) (sym (ap (λ m. m.counted) c)) (subst (Stamps (p.size) (clock s.words) (counters_of vs).counted) (sym (join_stamps vs id other v u at too)) h.stamps);
       numbers = record { numbers_once = λ k. let n = join_numbers vs id other v u at too k in let o = h.numbers.numbers_once k in omega arith; one_maker = makers };
       cells = subst (Cells p (part s.words) (value s.words)) (sym (join_cells vs id other v u at too)) h.cells;
+      fixed = h.fixed;
       numbers_below = λ i y is k pos. let all = join_numbers vs id other v u at too k in
           let low : (j : ℕ) (z : View) → get_elem? vs j ≡ some z → k < z.passes = λ j z d. h.numbers_below j z d k (omega arith) in let q = low id v at in let r = low other u was in
           each_set (λ z. k < z.passes) (set vs id w) other spent (let c = first.passes_capped in omega arith) (λ j z _ d. each_set (λ z. k < z.passes) vs id w (omega arith) (λ j z _ d. low j z d) j z d) i y is;

@@ -1,5 +1,5 @@
--- LoadValue, Publish and WriteValue keep the rule.
-use Rattle.std.proofs.Common.{◌≡◌, ◌≢◌, ℕ, suc, ◌+◌, ◌*◌, ◌<◌, ◌≤◌, inl, inr, ⊎_elim, List, [], ◌∷◌, set, sym, refl, ap, ◌∙◌, subst, arith, length-set, get_or-set_other, get_or-set_same, Some}
+-- LoadValue, LoadPart, Publish and WriteValue keep the rule.
+use Rattle.std.proofs.Common.{◌≡◌, ◌≢◌, ℕ, suc, Bool, true, false, ◌+◌, ◌*◌, ◌<◌, ◌≤◌, ◌⊎◌, inl, inr, ⊎_elim, List, [], ◌∷◌, set, get_or, sym, refl, ap, ◌∙◌, subst, arith, length-set, get_or-set_other, get_or-set_same, Some}
 use mathlib.Core.Option.{none, some}
 use mathlib.Core.Logic.{dite}
 use native.Mathlib.Decide.{ℕ_discrete}
@@ -13,8 +13,8 @@ use Rattle.board_core.specs.Script.{Script, IsOwn, Uses, Gives, IsAfter, serial_
 use Rattle.board_core.specs.Sums.{counters_of, CellSums, cell_sums}
 use Rattle.board_core.specs.Rule.{Cells, Apart, Holds, IsLive}
 use Rattle.board_core.specs.Steps.{publishing, writing, LoadsValue, Puts}
-use Rattle.board_core.proofs.Totals.{hit_same, hit_else, hits, pair_hits, pair_le_first, grown, kept, total_some}
-use Rattle.board_core.proofs.Kept.{others_kept, counters_same, stamps_same, numbers_same, cells_same, keep_counters, keep_stamps, keep_numbers, keep_cells, each_set}
+use Rattle.board_core.proofs.Totals.{hit_same, hit_else, hits, pair_hits, pair_le_first, grown, kept, total_at, total_some}
+use Rattle.board_core.proofs.Kept.{others_kept, counters_same, stamps_same, numbers_same, cells_same, keep_counters, keep_stamps, keep_numbers, keep_cells, keep_fixed, each_set}
 use Rattle.board_core.proofs.Cells.{all_counted, inputs_are_serial, writes_value, after_same}
 use Rattle.board_core.proofs.Steps.{below_kept, taken_at_most_once, alone}
 
@@ -62,25 +62,44 @@ finds_serial p s id v t r h at begun unfinished unwritten uses = let k = held p 
     inputs_are_serial p (value s.words r) (λ x. p.early x r + (cell_sums s.views).written x r) r t (h.cells.value_of_writers r (h.sound.used_is_record t r uses)) (earlier_put p s id v t r h at k uses)
     (λ x l. dite (ℕ_discrete x t) (λ e. let same : (cell_sums s.views).written x r ≡ (cell_sums s.views).written t r = ap (λ y. (cell_sums s.views).written y r) e in let u = h.sound.later_unknown x t r k.own l uses in omega arith) (λ ne. later_put p s id v t r h at k uses x (omega arith)))
 
--- LoadValue: nothing changes
+-- a load changes nothing
+loads_nothing : (p : Script) (s : State ℕ View) (id i : ℕ) (v : View) → Holds p s → get_elem? s.views id ≡ some v → Holds p record { words = set s.words i (get_or s.words i 0); homes = s.homes; views = set s.views id v }
+loads_nothing p s id i v h at = subst (λ (ws : List ℕ). Holds p record { words = ws; homes = s.homes; views = set s.views id v }) (sym (set-get_or s.words i 0)) record {
+  sized = h.sized;
+  sound = h.sound;
+  counters = keep_counters p _ _ _ _ _ _ refl refl (counters_same s.views id v v at refl) h.counters;
+  stamps = keep_stamps (p.size) _ _ _ _ _ _ refl (ap (λ m. m.counted) (counters_same s.views id v v at refl)) (stamps_same s.views id v v at refl) h.stamps;
+  numbers = keep_numbers _ _ (numbers_same s.views id v v at refl) h.numbers;
+  cells = keep_cells p _ _ _ _ _ _ h.sound.parts_few (λ x k lk. refl) refl (cells_same s.views id v v at refl) h.cells;
+  fixed = h.fixed;
+  numbers_below = below_kept p s id v v h at refl refl;
+  each = each_set (Apart p) s.views id v (h.each id v at) h.each;
+}
+
+-- LoadValue
 pub loads_value : (p : Script) (slots id : ℕ) (me : Me ℕ View) (t r : ℕ) → IsLive me.0 → 0 < times_first t me.0.begins → times_first t me.0.finishes ≡ 0 → times_first t me.0.written ≡ 0 → Uses p t r
     → Allows (Holds p) slots id me (value_place r) (λ n. n) (LoadsValue (serial_value p t r) (step slots (value_place r) 0 0 none) me)
-loads_value p slots id me t r live begun unfinished unwritten uses s h homes at fits = let v = me.0 in (
-  v,
-  keeps,
-  tt,
-  subst (λ (ws : List ℕ). Holds p record { words = ws; homes = s.homes; views = set s.views id v }) (sym (set-get_or s.words (value_place r) 0)) record {
-    sized = h.sized;
-    sound = h.sound;
-    counters = keep_counters p _ _ _ _ _ _ refl refl (counters_same s.views id v v at refl) h.counters;
-    stamps = keep_stamps (p.size) _ _ _ _ _ _ refl (ap (λ m. m.counted) (counters_same s.views id v v at refl)) (stamps_same s.views id v v at refl) h.stamps;
-    numbers = keep_numbers _ _ (numbers_same s.views id v v at refl) h.numbers;
-    cells = keep_cells p _ _ _ _ _ _ h.sound.parts_few (λ x k lk. refl) refl (cells_same s.views id v v at refl) h.cells;
-    numbers_below = below_kept p s id v v h at refl refl;
-    each = each_set (Apart p) s.views id v (h.each id v at) h.each;
-  },
-  (refl, finds_serial p s id v t r h at begun unfinished unwritten uses),
-)
+loads_value p slots id me t r live begun unfinished unwritten uses s h homes at fits =
+    (me.0, keeps, tt, loads_nothing p s id (value_place r) me.0 h at, (refl, finds_serial p s id me.0 t r h at begun unfinished unwritten uses))
+
+-- what began finds each word that is set at the start, and each word of a position that it waited for
+finds_part : (p : Script) (s : State ℕ View) (id : ℕ) (v : View) (x t k : ℕ) → Holds p s → get_elem? s.views id ≡ some v → 0 < times_first t v.begins → k < p.parts x → (p.fixed x k ≡ true) ⊎ (0 < p.edge x t) → part s.words x k ≡ p.meant x k
+finds_part p s id v x t k h at begun lk why = ⊎_elim (λ fixed. h.fixed x k fixed)
+    (λ edge.
+    let a = (h.each id v at).stamps.begun_is_taken t in let all = total_at (λ u. times t u.taken) s.views id v at in let now = h.counters.ready_has_no_need t (omega arith) in
+    let lx = (h.sound.edge_is_forward x t edge).0 in let lt = h.sound.own_is_below t now.0 in
+    let c = all_counted p (need s.words) (turn s.words) (counters_of s.views) x t h.counters now.0 (omega arith) now.1 in
+    let done = total_some (λ u. times_pair x t u.counted) (λ u. times_first x u.finishes) s.views (λ i u e pos. (h.each i u e).stamps.counted_is_finished x t pos) (omega arith) in
+    let taken = total_some (λ u. times_first x u.finishes) (λ u. times x u.taken) s.views (λ i u e pos. let b = (h.each i u e).stamps in let d = b.finished_is_begun x in let f = b.begun_is_taken x in omega arith) done in
+    let own = (h.counters.ready_has_no_need x (omega arith)).0 in
+    let put = total_some (λ u. times_first x u.finishes) (λ u. times_pair x k u.published) s.views (λ i u e pos. (h.each i u e).cells.finished_is_published x pos k lk) done in
+    ⊎_elim (λ z. let b = z.0 in absurd (omega arith)) (λ z. z.1) (h.cells.published_as_meant x k own lk))
+    why
+
+-- LoadPart
+pub loads_part : (p : Script) (slots id : ℕ) (me : Me ℕ View) (x t k : ℕ) → IsLive me.0 → 0 < times_first t me.0.begins → k < p.parts x → (p.fixed x k ≡ true) ⊎ (0 < p.edge x t)
+    → Allows (Holds p) slots id me (part_at x k) (λ n. n) (LoadsValue (p.meant x k) (step slots (part_at x k) 0 0 none) me)
+loads_part p slots id me x t k live begun lk why s h homes at fits = (me.0, keeps, tt, loads_nothing p s id (part_at x k) me.0 h at, (refl, finds_part p s id me.0 x t k h at begun lk why))
 
 -- Publish: the cells alone
 publishes_sums : (vs : List View) (id : ℕ) (v : View) (t k : ℕ) → get_elem? vs id ≡ some v
@@ -89,6 +108,9 @@ publishes_sums vs id v t k at = let w = publishing t k v in λ i. record {
   published = λ x y. grown (λ u. times_pair x y u.published) vs id v w (hit_pair x y (t, k)) at refl i;
   written = λ x y. kept (λ u. times_pair x y u.written) vs id v w at refl i;
 }
+
+clash : (b : Bool) → b ≡ false → b ≡ true → ⊥
+clash b x y = absurd (cc)
 
 publishes_cells : (p : Script) (part part' : ℕ → ℕ → ℕ) (value : ℕ → ℕ) (m : CellSums) (t k : ℕ) → ((t : ℕ) → p.parts t ≤ 17) → part' t k ≡ p.meant t k → ((x y : ℕ) → y < 17 → ((x ≡ t) → (y ≡ k) → ⊥) → part' x y ≡ part x y)
     → Cells p part value m → Cells p part' value (record m { published = λ x y. hit_pair x y (t, k) + m.published x y })
@@ -116,6 +138,7 @@ publishes p slots id me t k live begun lk s h homes at fits = let v = me.0 in le
         cells = subst (λ x. Cells p (part ws') x (cell_sums (set s.views id w))) (sym (others_kept s.words (part_at t k) n value_place (λ x e. absurd (omega arith)))) (subst (Cells p (part ws') (value s.words)) (sym (publishes_sums s.views id v t k at))
             (publishes_cells p (part s.words) (part ws') (value s.words) (cell_sums s.views) t k h.sound.parts_few (get_or-set_same s.words (part_at t k) n 0 (omega arith))
             (λ x y ly other. get_or-set_other s.words (part_at t k) (part_at x y) n 0 (λ e. other (omega arith) (omega arith))) h.cells));
+        fixed = λ y j is. let m = h.sound.fixed_is_part y j is in let low = m.1 in let more = h.sound.parts_few y in get_or-set_other s.words (part_at t k) (part_at y j) n 0 (λ e. let same : t ≡ y = omega arith in clash (p.own y) m.0 (subst (λ z. p.own z ≡ true) same own)) ∙ h.fixed y j is;
         numbers_below = below_kept p s id v w h at refl refl;
         each = each_set (Apart p) s.views id w record {
           stamps = a.stamps;
@@ -174,6 +197,7 @@ writes p slots id me t r n live begun unfinished all_published is s h homes at f
         cells = subst (Cells p (part ws') (value ws')) (sym (writes_sums s.views id v t r at))
             (writes_cells p (part s.words) (part ws') (value s.words) (value ws') (cell_sums s.views) t r n h.sound.parts_few (λ x y ly. get_or-set_other s.words (value_place r) (part_at x y) n 0 (λ e. absurd (omega arith))) is
             (get_or-set_same s.words (value_place r) n 0 (omega arith)) (λ y ne. get_or-set_other s.words (value_place r) (value_place y) n 0 (λ e. ne (omega arith))) (earlier_put p s id v t r h at k uses) (later_put p s id v t r h at k uses) h.cells);
+        fixed = keep_fixed p _ _ h.sound (λ x y ly. get_or-set_other s.words (value_place r) (part_at x y) n 0 (λ e. absurd (omega arith))) h.fixed;
         numbers_below = below_kept p s id v w h at refl refl;
         each = each_set (Apart p) s.views id w record {
           stamps = a.stamps;

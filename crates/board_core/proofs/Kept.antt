@@ -5,9 +5,9 @@ use lib.ListN.{get_elem?}
 use Rattle.atomic_table.proofs.Lists.{at_set}
 use Rattle.board_core.specs.declared.view.View.{View}
 use Rattle.board_core.specs.Counts.{times_pair, times_first, times}
-use Rattle.board_core.specs.Script.{Script}
+use Rattle.board_core.specs.Script.{Script, IsSound}
 use Rattle.board_core.specs.Sums.{counter_part, CounterSums, counters_of, stamp_part, StampSums, both_stamps, stamps_of, stamp_sums, number_part, NumberSums, number_sums, fewer, cell_part, CellSums, cell_sums}
-use Rattle.board_core.specs.Rule.{Counters, Stamps, Numbers, Cells}
+use Rattle.board_core.specs.Rule.{Counters, Stamps, Numbers, Cells, Fixed}
 use Rattle.board_core.proofs.Totals.{kept}
 
 -- the words at other places
@@ -67,3 +67,6 @@ keep_cells p q q' c c' m m' few a b e h = subst (λ x. Cells p q' x m') (sym b) 
 -- what holds of each pass holds of each after a step of one
 pub each_set : (P : View → Type 0) (vs : List View) (id : ℕ) (w : View) → P w → ((j : ℕ) (u : View) → get_elem? vs j ≡ some u → P u) → (j : ℕ) (u : View) → get_elem? (set vs id w) j ≡ some u → P u
 each_set P vs id w mine others j u e = ⊎_elim (λ (x : (j ≡ id) × (w ≡ u)). subst P x.1 mine) (λ (x : (j ≢ id) × (get_elem? vs j ≡ some u)). others j u x.1) (at_set vs id j w u e)
+
+pub keep_fixed : (p : Script) (q q' : ℕ → ℕ → ℕ) → IsSound p → ((t k : ℕ) → k < 17 → q' t k ≡ q t k) → Fixed p q → Fixed p q'
+keep_fixed p q q' sound same h = λ t k is. let a = (sound.fixed_is_part t k is).1 in let few = sound.parts_few t in same t k (omega arith) ∙ h t k is

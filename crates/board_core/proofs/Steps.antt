@@ -16,7 +16,7 @@ use Rattle.board_core.specs.Rule.{Counters, Stamps, Apart, Holds, IsLive}
 use Rattle.board_core.specs.Steps.{loaded, swapped, begun, finished, counted_down, Tells, Swaps, Loads, Begins, Finishes}
 use Rattle.board_core.proofs.Totals.{hit_same, hit_else, hits, pair_hits, extra, times-noted, extra_is, extra_yes, extra_no, extra_le, pair_le_first, pair_le_second, grown, kept, total_at, total_le, total_some, only, below-add, below_one, below_lt, below_most, once_is_below}
 use Rattle.board_core.proofs.Cells.{all_counted}
-use Rattle.board_core.proofs.Kept.{others_kept, counters_same, stamps_same, numbers_same, cells_same, keep_counters, keep_stamps, keep_numbers, keep_cells, each_set}
+use Rattle.board_core.proofs.Kept.{others_kept, counters_same, stamps_same, numbers_same, cells_same, keep_counters, keep_stamps, keep_numbers, keep_cells, keep_fixed, each_set}
 
 -- a step that keeps the numbers of its pass and its count of passes
 pub below_kept : (p : Script) (s : State ℕ View) (id : ℕ) (v w : View) → Holds p s → get_elem? s.views id ≡ some v → w.numbers ≡ v.numbers → w.passes ≡ v.passes
@@ -61,6 +61,7 @@ loads p slots id me t live l s h homes at fits = let v = me.0 in let n = need s.
     stamps = keep_stamps (p.size) _ _ _ _ _ _ refl (ap (λ m. m.counted) c) (stamps_same s.views id v w at refl) h.stamps;
     numbers = keep_numbers _ _ (numbers_same s.views id v w at refl) h.numbers;
     cells = keep_cells p _ _ _ _ _ _ h.sound.parts_few (λ x k lk. refl) refl (cells_same s.views id v w at refl) h.cells;
+    fixed = keep_fixed p _ _ h.sound (λ x k lk. refl) h.fixed;
     numbers_below = below_kept p s id v w h at refl refl;
     each = each_set (Apart p) s.views id w (let a = h.each id v at in record { stamps = a.stamps; cells = a.cells; live_or_spent = inl live; passes_capped = a.passes_capped }) h.each;
   },
@@ -116,6 +117,7 @@ swaps p slots id me t live ready s h homes at fits = let v = me.0 in let n = tur
         stamps = keep_stamps (p.size) _ _ _ _ _ _ (get_or-set_other s.words (turn_at t) 0 1 0 (λ e. absurd (omega arith))) (ap (λ m. m.counted) c) (stamps_same s.views id v w at refl) h.stamps;
         numbers = keep_numbers _ _ (numbers_same s.views id v w at refl) h.numbers;
         cells = keep_cells p _ _ _ _ _ _ h.sound.parts_few (λ x k lk. get_or-set_other s.words (turn_at t) (part_at x k) 1 0 (λ e. absurd (omega arith))) (others_kept s.words (turn_at t) 1 value_place (λ x e. absurd (omega arith))) (cells_same s.views id v w at refl) h.cells;
+        fixed = keep_fixed p _ _ h.sound (λ x k lk. get_or-set_other s.words (turn_at t) (part_at x k) 1 0 (λ e. absurd (omega arith))) h.fixed;
         numbers_below = below_kept p s id v w h at refl refl;
         each = each_set (Apart p) s.views id w record {
           stamps = record {
@@ -217,6 +219,7 @@ stamps_begin p slots id me t live has fresh s h homes at fits = let v = me.0 in 
             (begins_stamps (p.size) n (clock (set s.words 0 n')) t (counters_of s.views).counted (stamp_sums s.views) l late (clock_here s.words n' h.sized.2 ∙ goes_up n small) h.stamps);
         numbers = keep_numbers _ _ (numbers_same s.views id v w at refl) h.numbers;
         cells = keep_cells p _ _ _ _ _ _ h.sound.parts_few (λ x k lk. get_or-set_other s.words 0 (part_at x k) n' 0 (λ e. absurd (omega arith))) (others_kept s.words 0 n' value_place (λ x e. absurd (omega arith))) (cells_same s.views id v w at refl) h.cells;
+        fixed = keep_fixed p _ _ h.sound (λ x k lk. get_or-set_other s.words 0 (part_at x k) n' 0 (λ e. absurd (omega arith))) h.fixed;
         numbers_below = below_kept p s id v w h at refl refl;
         each = each_set (Apart p) s.views id w record {
           stamps = record {
@@ -281,6 +284,7 @@ stamps_finish p slots id me t begin live has fresh all_published all_written s h
             (finishes_stamps (p.size) n (clock (set s.words 0 n')) t (counters_of s.views).counted (stamp_sums s.views) l none (clock_here s.words n' h.sized.2 ∙ goes_up n small) h.stamps);
         numbers = keep_numbers _ _ (numbers_same s.views id v w at refl) h.numbers;
         cells = keep_cells p _ _ _ _ _ _ h.sound.parts_few (λ x k lk. get_or-set_other s.words 0 (part_at x k) n' 0 (λ e. absurd (omega arith))) (others_kept s.words 0 n' value_place (λ x e. absurd (omega arith))) (cells_same s.views id v w at refl) h.cells;
+        fixed = keep_fixed p _ _ h.sound (λ x k lk. get_or-set_other s.words 0 (part_at x k) n' 0 (λ e. absurd (omega arith))) h.fixed;
         numbers_below = below_kept p s id v w h at refl refl;
         each = each_set (Apart p) s.views id w record {
           stamps = record {
@@ -380,6 +384,7 @@ counts_down p slots id me r t live done is fresh s h homes at fits = let v = me.
             (counts_stamps (p.size) (clock s.words) r t (counters_of s.views).counted (stamp_sums s.views) none h.stamps);
         numbers = keep_numbers _ _ (numbers_same s.views id v w at refl) h.numbers;
         cells = keep_cells p _ _ _ _ _ _ h.sound.parts_few (λ x k lk. get_or-set_other s.words (need_at t) (part_at x k) n' 0 (λ e. absurd (omega arith))) (others_kept s.words (need_at t) n' value_place (λ x e. absurd (omega arith))) (cells_same s.views id v w at refl) h.cells;
+        fixed = keep_fixed p _ _ h.sound (λ x k lk. get_or-set_other s.words (need_at t) (part_at x k) n' 0 (λ e. absurd (omega arith))) h.fixed;
         numbers_below = below_kept p s id v w h at refl refl;
         each = each_set (Apart p) s.views id w record {
           stamps = record {

@@ -1,5 +1,5 @@
 -- The kinds of step with their conditions: each keeps the rule, whatever the other passes did before.
-use Rattle.std.specs.Prelude.{◌≡◌, ℕ, ◌+◌, ◌-◌, ◌%◌, ◌^◌, ◌<◌, Some}
+use Rattle.std.specs.Prelude.{◌≡◌, ℕ, true, ◌⊎◌, ◌+◌, ◌-◌, ◌%◌, ◌^◌, ◌<◌, Some}
 use mathlib.Core.Option.{none, some}
 use lib.ListN.{get_elem?}
 use Rattle.atomic_table.specs.Table.{State, Me, step, Allows, Splits, Joins}
@@ -26,6 +26,9 @@ pub record StepsKeepTheRule (p : Script) : Type 0 where
   -- t is held and has written nothing
   pub load_value : (slots id : ℕ) (me : Me ℕ View) (t r : ℕ) → IsLive me.0 → 0 < times_first t me.0.begins → times_first t me.0.finishes ≡ 0 → times_first t me.0.written ≡ 0 → Uses p t r
       → Allows (Holds p) slots id me (value_place r) (λ n. n) (LoadsValue (serial_value p t r) (step slots (value_place r) 0 0 none) me)
+  -- t has begun, and the word is one that is set at the start or that of a position which t waited for
+  pub load_part : (slots id : ℕ) (me : Me ℕ View) (x t k : ℕ) → IsLive me.0 → 0 < times_first t me.0.begins → k < p.parts x → (p.fixed x k ≡ true) ⊎ (0 < p.edge x t)
+      → Allows (Holds p) slots id me (part_at x k) (λ n. n) (LoadsValue (p.meant x k) (step slots (part_at x k) 0 0 none) me)
   -- t has begun, and the word is as meant
   pub publish : (slots id : ℕ) (me : Me ℕ View) (t k : ℕ) → IsLive me.0 → 0 < times_first t me.0.begins → k < p.parts t
       → Allows (Holds p) slots id me (part_at t k) (λ _. p.meant t k) (Puts (publishing t k) (step slots (part_at t k) (p.meant t k) 0 none) me)

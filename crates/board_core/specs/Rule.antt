@@ -1,6 +1,6 @@
 -- The rule of a board: what holds of the words and of what all passes know, between any two steps.
 -- It is cut into themes, each over words and totals of its own, so that a step that leaves a theme alone keeps it as it stands.
-use Rattle.std.specs.Prelude.{◌≡◌, ℕ, ◌+◌, ◌*◌, ◌<◌, ◌≤◌, ◌⊎◌, List, [], length}
+use Rattle.std.specs.Prelude.{◌≡◌, ℕ, true, ◌+◌, ◌*◌, ◌<◌, ◌≤◌, ◌⊎◌, List, [], length}
 use mathlib.Core.Option.{some}
 use lib.ListN.{get_elem?}
 use Rattle.atomic_table.specs.Table.{State}
@@ -50,6 +50,10 @@ pub record Cells (p : Script) (part : ℕ → ℕ → ℕ) (value : ℕ → ℕ)
   -- ValueOfWriters: the writers that have put their values are those before a cut, and the value word is that after them
   pub value_of_writers : (r : ℕ) → r < p.records → IsAfter p (value r) (λ t. p.early t r + m.written t r) r
 
+-- Fixed: a word that is set at the start stays as it is meant
+abbrev pub Fixed : Script → (ℕ → ℕ → ℕ) → Type 0
+Fixed p part = (t k : ℕ) → p.fixed t k ≡ true → part t k ≡ p.meant t k
+
 -- WHAT HOLDS OF ONE PASS ALONE
 -- Each record names the lists that it is about, so that a step that leaves these alone keeps it as it stands.
 
@@ -87,6 +91,7 @@ pub record Holds (p : Script) (s : State ℕ View) : Type 0 where
   pub stamps : Stamps (p.size) (clock s.words) (counters_of s.views).counted (stamp_sums s.views)
   pub numbers : Numbers (number_sums s.views)
   pub cells : Cells p (part s.words) (value s.words) (cell_sums s.views)
+  pub fixed : Fixed p (part s.words)
   -- PassesNumbered: all numbers taken in are below each count of passes
   pub numbers_below : (i : ℕ) (v : View) → get_elem? s.views i ≡ some v → (k : ℕ) → 0 < total (λ u. times k u.numbers) s.views → k < v.passes
   pub each : (i : ℕ) (v : View) → get_elem? s.views i ≡ some v → Apart p v

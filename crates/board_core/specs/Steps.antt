@@ -91,7 +91,7 @@ Begins p t st m found m' = (m' ≡ (begun t found m.0, m.1)) × (found ≤ 512) 
 abbrev pub Finishes : ℕ → ℕ → Step ℕ → Me ℕ View → ℕ → Me ℕ View → Type 0
 Finishes t begin st m found m' = (m' ≡ (finished t begin found m.0, m.1)) × (found ≤ 512) × ((u : ℕ) → times_pair t u m.0.counted ≡ 0)
 
--- a load of a value: it is the serial value x
+-- a load of a value or of a part: it is x
 abbrev pub LoadsValue : ℕ → Step ℕ → Me ℕ View → ℕ → Me ℕ View → Type 0
 LoadsValue x st m found m' = (m' ≡ m) × (found ≡ x)
 

@@ -7,6 +7,6 @@ mod plays;
 mod step;
 
 pub use about::About;
-pub use parts::{count_all, load_all, publish_all, write_all};
+pub use parts::{count_all, load_all, part_word, publish_all, write_kept};
 pub use plays::{Another, Both, Found, Pair, Position, Rule};
-pub use step::{Words, begin_stamp, finish_stamp, load_need, swap_turn};
+pub use step::{Words, begin_stamp, finish_stamp, load_need, load_part, swap_turn};

@@ -10,12 +10,13 @@ ghost use Rattle.board_core.specs.Rule.{IsLive};
 ghost use Rattle.board_core.specs.Parts.{Counts, Published, Entered, Wrote};
 ghost use Rattle.board_core.specs.Passes.{AreFlags};
 ghost use Rattle.board_work.specs.Scripts.{script, word_of, outcome_at, writes_at, reason_word, cell_word};
-ghost use Rattle.board_steps.specs.Abouts.{told, HasRoom};
+ghost use Rattle.board_work.specs.declared.layout.Layout.TheVariants.{Values};
+ghost use Rattle.board_steps.specs.Abouts.{told, scripted, IsLaidOut, HasRoom};
 
 use crate::step::{Words, count_down, load_value, publish, write_value};
 use atomic_table::Seat;
 use board_core::View;
-use board_work::Made;
+use board_work::{Layout, Made};
 use std::marker::Brand;
 use txn_types::{Outcome, Reason, Txn};
 
@@ -30,6 +31,7 @@ pub fn load_all(
     requires seat { (seat.old.table_id ≡ words.now.table_id) × IsLive seat.old.me.0 }
     requires place { HasRoom (told words.now.key) words.now.table_id.words × (length row.now ≤ 16) }
     requires held { (0 < times_first t seat.old.me.0.begins) × (times_first t seat.old.me.0.finishes ≡ 0) × (times_first t seat.old.me.0.written ≡ 0) }
+    requires layout { IsLaidOut Values words.now.key }
     requires records { (k : ℕ) → k < length row.now → (slice_index row.now k < length (told words.now.key).table.records) × Uses (script (told words.now.key)) t (slice_index row.now k) }
     ensures same { (seat.new.table_id ≡ seat.old.table_id) × (seat.new.id ≡ seat.old.id) × (seat.new.me ≡ seat.old.me) }
     ensures values { (k : ℕ) → k < length row.now → slice_index out.new k ≡ serial_value (script (told words.now.key)) t (slice_index row.now k) }
@@ -67,7 +69,8 @@ fn cell_word(cell: Option<u64>) -> u64
     }
 }
 
-fn part_word(outcome: &Outcome, k: usize) -> u64
+/// The outcome word, and behind it the word of each entry.
+pub fn part_word(outcome: &Outcome, k: usize) -> u64
     requires { (cells : _) → outcome.now ≡ Commit cells → (j x : ℕ) → slice_index_or cells j None ≡ Some x → x < 4611686018427387904 }
     ensures { result ≡ word_of (Some outcome.now) k }
 {
@@ -110,6 +113,7 @@ fn write_entry(words: &Words, seat: &mut Seat<u8, View>, t: usize, r: usize, cel
     requires place { (r < length (told words.now.key).table.records) × HasRoom (told words.now.key) words.now.table_id.words }
     requires held { (0 < times_first t seat.old.me.0.begins) × (times_first t seat.old.me.0.finishes ≡ 0) }
     requires published { (k : ℕ) → k < (script (told words.now.key)).parts t → 0 < times_pair t k seat.old.me.0.published }
+    requires layout { IsLaidOut Values words.now.key }
     requires meant { (x : ℕ) → cell ≡ Some x → (script (told words.now.key)).effect t r ≡ Some x }
     ensures same { (seat.new.table_id ≡ seat.old.table_id) × (seat.new.id ≡ seat.old.id) × (seat.new.me.1 ≡ seat.old.me.1) }
     ensures entered { Entered cell t r seat.old.me.0 seat.new.me.0 }
@@ -133,6 +137,7 @@ fn write_entries(
     requires held { (0 < times_first t seat.old.me.0.begins) × (times_first t seat.old.me.0.finishes ≡ 0) }
     requires published { (k : ℕ) → k < (script (told words.now.key)).parts t → 0 < times_pair t k seat.old.me.0.published }
     requires records { (k : ℕ) → k < length records.now → slice_index records.now k < length (told words.now.key).table.records }
+    requires layout { IsLaidOut Values words.now.key }
     requires meant { (k x : ℕ) → k < length records.now → slice_index_or cells.now k None ≡ Some x → (script (told words.now.key)).effect t (slice_index records.now k) ≡ Some x }
     ensures same { (seat.new.table_id ≡ seat.old.table_id) × (seat.new.id ≡ seat.old.id) × (seat.new.me.1 ≡ seat.old.me.1) }
     ensures wrote { Wrote (length records.now) t records.now cells.now seat.old.me.0 seat.new.me.0 }
@@ -142,8 +147,8 @@ fn write_entries(
     }
 }
 
-/// Writes each value that t gives, once all its words are published.
-pub fn write_all(
+// Writes each value that t gives, once all its words are published.
+fn write_all(
     words: &Words,
     records: &[u16],
     seat: &mut Seat<u8, View>,
@@ -155,6 +160,7 @@ pub fn write_all(
     requires records { (records.now ≡ writes_at (told words.now.key) t) × IsRising records.now × ((k : ℕ) → k < length records.now → slice_index records.now k < length (told words.now.key).table.records) }
     requires held { (0 < times_first t seat.old.me.0.begins) × (times_first t seat.old.me.0.finishes ≡ 0) }
     requires published { (k : ℕ) → k < (script (told words.now.key)).parts t → 0 < times_pair t k seat.old.me.0.published }
+    requires layout { IsLaidOut Values words.now.key }
     requires meant { outcome_at (told words.now.key) t ≡ Some outcome.now }
     ensures same { (seat.new.table_id ≡ seat.old.table_id) × (seat.new.id ≡ seat.old.id) × (seat.new.me.1 ≡ seat.old.me.1) }
     ensures view { (seat.new.me.0 ≡ record seat.old.me.0 { written = seat.new.me.0.written }) × ((x : ℕ) → x ≢ t → times_first x seat.new.me.0.written ≡ times_first x seat.old.me.0.written) }
@@ -165,6 +171,32 @@ pub fn write_all(
         Outcome::Commit(entries) => {
             write_entries(words, records, entries.as_slice(), seat, t);
         }
+    }
+}
+
+/// Writes each value that t gives, where the words keep values.
+pub fn write_kept(
+    words: &Words,
+    layout: Layout,
+    records: &[u16],
+    seat: &mut Seat<u8, View>,
+    t: usize,
+    outcome: &Outcome,
+)
+    requires seat { (seat.old.table_id ≡ words.now.table_id) × IsLive seat.old.me.0 }
+    requires place { HasRoom (told words.now.key) words.now.table_id.words × (t < length (told words.now.key).txns) }
+    requires records { (records.now ≡ writes_at (told words.now.key) t) × IsRising records.now × ((k : ℕ) → k < length records.now → slice_index records.now k < length (told words.now.key).table.records) }
+    requires held { (0 < times_first t seat.old.me.0.begins) × (times_first t seat.old.me.0.finishes ≡ 0) }
+    requires published { (k : ℕ) → k < (script (told words.now.key)).parts t → 0 < times_pair t k seat.old.me.0.published }
+    requires layout { IsLaidOut layout words.now.key }
+    requires meant { outcome_at (told words.now.key) t ≡ Some outcome.now }
+    ensures same { (seat.new.table_id ≡ seat.old.table_id) × (seat.new.id ≡ seat.old.id) × (seat.new.me.1 ≡ seat.old.me.1) }
+    ensures view { (seat.new.me.0 ≡ record seat.old.me.0 { written = seat.new.me.0.written }) × ((x : ℕ) → x ≢ t → times_first x seat.new.me.0.written ≡ times_first x seat.old.me.0.written) }
+    ensures written { (r : ℕ) → Gives (scripted words.now.key) t r → 0 < times_pair t r seat.new.me.0.written }
+{
+    match layout {
+        Layout::Values => write_all(words, records, seat, t, outcome),
+        Layout::Versions => {}
     }
 }
 
@@ -206,7 +238,7 @@ pub fn count_all(
 )
     requires seat { (seat.old.table_id ≡ words.now.table_id) × IsLive seat.old.me.0 }
     requires place { HasRoom (told words.now.key) words.now.table_id.words × (length duty.old.items ≡ length (told words.now.key).txns) }
-    requires sound { IsSound (script (told words.now.key)) }
+    requires sound { IsSound (scripted words.now.key) }
     requires row { (length row.now ≤ 256) × ((y : ℕ) → times y row.now ≡ (script (told words.now.key)).edge s y) }
     requires done { 0 < times_first s seat.old.me.0.finishes }
     requires new { (y : ℕ) → times_pair s y seat.old.me.0.counted ≡ 0 }

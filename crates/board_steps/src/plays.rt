@@ -10,12 +10,11 @@ pub struct Rule;
 impl TableRule<u8, View, About> for Rule {
     ghost use Rattle.board_core.specs.Rule.{Holds};
     ghost use Rattle.board_core.specs.Steps.{first_view};
-    ghost use Rattle.board_work.specs.Scripts.{script};
-    ghost use Rattle.board_steps.specs.Abouts.{told};
+    ghost use Rattle.board_steps.specs.Abouts.{scripted};
 
-    ghost holds = { λ key. Holds (script (told key)) };
+    ghost holds = { λ key. Holds (scripted key) };
 
-    ghost first = { λ key. first_view (script (told key)) };
+    ghost first = { λ key. first_view (scripted key) };
 }
 
 /// The position of a step, and the script. Each call picks them.
@@ -107,7 +106,7 @@ impl<J: Pair> Play<u8, View> for WriteValue<J> {
     ghost then = { Puts (writing J.from J.to) };
 }
 
-/// The value that a load finds. Each call picks it.
+/// The word that a load finds. Each call picks it.
 pub trait Found {
     ghost use Rattle.std.specs.Prelude.{ℕ};
 
@@ -118,9 +117,9 @@ impl Found for Brand {
     ghost found = { 0 };
 }
 
-pub(crate) struct LoadValue<J>(PhantomData<J>);
+pub(crate) struct LoadWord<J>(PhantomData<J>);
 
-impl<J: Found> Play<u8, View> for LoadValue<J> {
+impl<J: Found> Play<u8, View> for LoadWord<J> {
     ghost use Rattle.board_core.specs.Steps.{LoadsValue};
 
     ghost then = { LoadsValue J.found };

@@ -1,16 +1,17 @@
 //! One function for each kind of step on a word.
-ghost use Rattle.std.specs.Prelude.{◌≡◌, ◌≢◌, ◌<◌, ◌*◌, ◌+◌, ◌≤◌, ℕ, length, true, Some};
+ghost use Rattle.std.specs.Prelude.{◌≡◌, ◌≢◌, ◌<◌, ◌*◌, ◌+◌, ◌≤◌, ℕ, ◌⊎◌, length, true, Some};
 ghost use Rattle.board_core.specs.Counts.{times_first, times_pair, times};
 ghost use Rattle.board_core.specs.Script.{Runs, Uses, Gives, serial_value};
 ghost use Rattle.board_core.specs.Rule.{IsLive};
 ghost use Rattle.board_core.specs.Steps.{loaded, swapped, begun, finished, counted_down, publishing, writing};
 ghost use Rattle.board_defs.specs.Closure.{is_own};
-ghost use Rattle.board_work.specs.Scripts.{script};
-ghost use Rattle.board_steps.specs.Abouts.{told, HasRoom};
+ghost use Rattle.board_work.specs.Scripts.{script, word_of, outcome_at, writes_at};
+ghost use Rattle.board_work.specs.declared.layout.Layout.TheVariants.{Values};
+ghost use Rattle.board_steps.specs.Abouts.{told, scripted, IsLaidOut, HasRoom};
 
 use crate::about::About;
 use crate::plays::{
-    BeginStamp, CountDown, FinishStamp, Found, LoadNeed, LoadValue, Pair, Position, Publish, Rule,
+    BeginStamp, CountDown, FinishStamp, Found, LoadNeed, LoadWord, Pair, Position, Publish, Rule,
     SwapTurn, WriteValue,
 };
 use atomic_table::{Seat, Shared};
@@ -46,7 +47,7 @@ pub fn swap_turn<J: Position>(words: &Words, seat: &mut Seat<u8, View>, t: usize
 /// The begin stamp of t.
 pub fn begin_stamp<J: Position>(words: &Words, seat: &mut Seat<u8, View>, t: usize) -> u64
     requires seat { (seat.old.table_id ≡ words.now.table_id) × IsLive seat.old.me.0 }
-    requires place { (t ≡ J.position) × (J.script ≡ script (told words.now.key)) × HasRoom (told words.now.key) words.now.table_id.words }
+    requires place { (t ≡ J.position) × (J.script ≡ scripted words.now.key) × HasRoom (told words.now.key) words.now.table_id.words }
     requires taken { (0 < times t seat.old.me.0.taken) × (times_first t seat.old.me.0.begins ≡ 0) }
     ensures same { (seat.new.table_id ≡ seat.old.table_id) × (seat.new.id ≡ seat.old.id) }
     ensures view { seat.new.me ≡ (begun t result seat.old.me.0, seat.old.me.1) }
@@ -62,10 +63,30 @@ pub fn load_value<J: Found>(words: &Words, seat: &mut Seat<u8, View>, t: usize, 
     requires place { (J.found ≡ serial_value (script (told words.now.key)) t r) × (r < length (told words.now.key).table.records) × HasRoom (told words.now.key) words.now.table_id.words }
     requires held { (0 < times_first t seat.old.me.0.begins) × (times_first t seat.old.me.0.finishes ≡ 0) × (times_first t seat.old.me.0.written ≡ 0) }
     requires uses { Uses (script (told words.now.key)) t r }
+    requires layout { IsLaidOut Values words.now.key }
     ensures same { (seat.new.table_id ≡ seat.old.table_id) × (seat.new.id ≡ seat.old.id) × (seat.new.me ≡ seat.old.me) }
     ensures value { result ≡ serial_value (script (told words.now.key)) t r }
 {
-    words.load::<LoadValue<J>>(seat, 2 * r + 2)
+    words.load::<LoadWord<J>>(seat, 2 * r + 2)
+}
+
+/// Loads a word of x that is set at the start, or that x published before t, which waited for it, was taken.
+pub fn load_part<J: Found>(
+    words: &Words,
+    seat: &mut Seat<u8, View>,
+    t: usize,
+    x: usize,
+    k: usize,
+) -> u64
+    requires seat { (seat.old.table_id ≡ words.now.table_id) × IsLive seat.old.me.0 }
+    requires place { (J.found ≡ word_of (outcome_at (told words.now.key) x) k) × (x < length (told words.now.key).txns) × HasRoom (told words.now.key) words.now.table_id.words }
+    requires part { (k < 1 + length (writes_at (told words.now.key) x)) × (k < 17) }
+    requires held { 0 < times_first t seat.old.me.0.begins }
+    requires set { ((scripted words.now.key).fixed x k ≡ true) ⊎ (0 < (script (told words.now.key)).edge x t) }
+    ensures same { (seat.new.table_id ≡ seat.old.table_id) × (seat.new.id ≡ seat.old.id) × (seat.new.me ≡ seat.old.me) }
+    ensures value { result ≡ word_of (outcome_at (told words.now.key) x) k }
+{
+    words.load::<LoadWord<J>>(seat, 38 * x + 5 + 2 * k)
 }
 
 /// Publishes one word of t, as meant.
@@ -93,6 +114,7 @@ pub fn write_value<J: Pair>(
     requires held { (0 < times_first t seat.old.me.0.begins) × (times_first t seat.old.me.0.finishes ≡ 0) }
     requires published { (k : ℕ) → k < (script (told words.now.key)).parts t → 0 < times_pair t k seat.old.me.0.published }
     requires meant { (script (told words.now.key)).effect t r ≡ Some value }
+    requires layout { IsLaidOut Values words.now.key }
     ensures same { (seat.new.table_id ≡ seat.old.table_id) × (seat.new.id ≡ seat.old.id) }
     ensures view { seat.new.me ≡ (writing t r seat.old.me.0, seat.old.me.1) }
 {
@@ -105,7 +127,7 @@ pub fn finish_stamp<J: Pair>(words: &Words, seat: &mut Seat<u8, View>, t: usize,
     requires place { (t ≡ J.from) × (begin ≡ J.to) × HasRoom (told words.now.key) words.now.table_id.words }
     requires held { (0 < times_pair t begin seat.old.me.0.begins) × (0 < times_first t seat.old.me.0.begins) × (times_first t seat.old.me.0.finishes ≡ 0) }
     requires published { (k : ℕ) → k < (script (told words.now.key)).parts t → 0 < times_pair t k seat.old.me.0.published }
-    requires written { (r : ℕ) → Gives (script (told words.now.key)) t r → 0 < times_pair t r seat.old.me.0.written }
+    requires written { (r : ℕ) → Gives (scripted words.now.key) t r → 0 < times_pair t r seat.old.me.0.written }
     ensures same { (seat.new.table_id ≡ seat.old.table_id) × (seat.new.id ≡ seat.old.id) }
     ensures view { seat.new.me ≡ (finished t begin result seat.old.me.0, seat.old.me.1) }
     ensures small { result ≤ 512 }

@@ -2,3 +2,4 @@ pub mod Opens
 pub mod Filling
 pub mod Decode
 pub mod Gathered
+mod EarlyVersions

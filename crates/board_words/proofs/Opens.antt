@@ -1,35 +1,37 @@
 -- How a board begins: the rows, the needs, and the words that a plan fills in.
-use Rattle.std.proofs.Common.{◌≡◌, ◌≢◌, ℕ, zero, suc, Bool, true, false, cond, eqb, eq-eqb, eqb-true, ◌&&◌, ◌||◌, ◌+◌, ◌*◌, ◌<◌, ◌≤◌, inl, ⊎_elim, List, [], ◌∷◌, ◌++◌, length, replicate, take, get_or, sym, refl, ap, ◌∙◌, subst, arith}
-use Rattle.std.specs.Prelude.{is_some, not}
+use Rattle.std.proofs.Common.{◌≡◌, ◌≢◌, ℕ, zero, suc, Bool, true, false, cond, eqb, eq-eqb, eqb-true, ◌&&◌, ◌||◌, ◌+◌, ◌-◌, ◌*◌, ◌<◌, ◌≤◌, inl, ⊎_elim, List, [], ◌∷◌, ◌++◌, length, replicate, take, get_or, sym, refl, ap, ◌∙◌, subst, arith}
+use Rattle.std.specs.Prelude.{is_some, not, nat_lt}
 use mathlib.Core.Option.{some, some-injective, some-ne-none}
 use mathlib.Core.Logic.{dite}
 use native.Mathlib.Decide.{ℕ_discrete, dec_lt}
 use lib.ListN.{get_elem?}
 use Rattle.std.proofs.lemmas.List.{append-nil, get_or-take, get_or_append_left, get_or_past, length-append, length-take-le}
 use Rattle.std.proofs.Math.Seq.{get_or-append_seam}
-use Rattle.std.proofs.lemmas.Bool.{lt-ltb, le-ltb, and_parts, and_from, cases_lt, ne_eqb}
+use Rattle.std.proofs.lemmas.Bool.{false≢true, ltb-true, lt-ltb, le-ltb, and_parts, and_from, cases_lt, ne_eqb}
 use Rattle.atomic_table.specs.Table.{opening}
 use Rattle.txn_types.specs.declared.txn.Kind.{Kind}
 use Rattle.txn_types.specs.declared.txn.Txn.{Txn}
 use Rattle.oxii_defs.specs.State.{contains, value_in}
 use Rattle.oxii_defs.specs.Dependency.{depends, preds_from, graph_after, graph_of}
 use Rattle.known_defs.specs.Known.{txn_at, no_txn, after_known}
-use Rattle.board_defs.specs.Closure.{Plan, is_own, known_at}
+use Rattle.board_defs.specs.Closure.{Plan, IsLawfulPlan, is_own, known_at}
 use Rattle.board_core.specs.declared.view.View.{View}
 use Rattle.board_core.specs.Counts.{once_below, below, times}
 use Rattle.board_core.specs.Words.{clock, need, need_at, turn, part, value, value_place}
 use Rattle.board_core.specs.Script.{Script, IsOwn, IsSound, IsAfter}
-use Rattle.board_core.specs.Rule.{Apart, Holds}
+use Rattle.board_core.specs.Rule.{Apart, Holds, Fixed}
 use Rattle.board_core.specs.Steps.{first_view, planned, ready_below}
 use Rattle.board_core.specs.Passes.{AreFlags}
 use Rattle.board_core.specs.Traces.{one_if}
 use Rattle.board_core.proofs.Totals.{hit_same, hit_else, hits, times-noted, times-append, extra, extra_is, extra_yes, below_zero}
 use Rattle.board_core.proofs.Cells.{after_same}
-use Rattle.board_work.specs.Scripts.{AreHeld, script, waits, is_edge, writes_at}
-use Rattle.script_laws.specs.Laws.{IsFullPlan}
+use Rattle.board_work.specs.Scripts.{AreHeld, script, script_of, outcome_at, word_of, waits, is_edge, writes_at}
+use Rattle.script_laws.specs.Laws.{IsPlanFor}
+use Rattle.board_work.specs.declared.layout.Layout.{Layout}
+use Rattle.board_work.specs.declared.layout.Layout.TheVariants.{Values, Versions}
 use Rattle.board_steps.specs.Abouts.{HasRoom}
-use Rattle.script_laws.proofs.Sound.{sound, own_below, edge_is}
-use Rattle.board_words.specs.Filled.{AreRows}
+use Rattle.script_laws.proofs.Sound.{sound_for, own_below, edge_is, known_is}
+use Rattle.board_words.specs.Filled.{AreRows, IsFilled}
 use Rattle.board_steps.proofs.PartFacts.{one_most}
 use Rattle.board_core.proofs.Closing.{same_below}
 use Rattle.script_laws.proofs.Starts.{starts}
@@ -102,9 +104,10 @@ ready_all (suc m) p t l own z = let b = p.own m && eqb (planned p m) 0 in let a 
     (λ ne. let c = ready_all m p t (omega arith) own z in omega arith)
 
 pub opens : (p : Script) (ws : List ℕ) → IsSound p → (38 * p.size < length ws) × (2 * p.records < length ws) × (0 < length ws) → clock ws ≡ 0 → ((t : ℕ) → IsOwn p t → (need ws t ≡ planned p t) × (turn ws t ≡ 0)) → ((t k : ℕ) → IsOwn p t → k < p.parts t → part ws t k ≡ 0)
-    → ((r : ℕ) → r < p.records → IsAfter p (value ws r) (λ t. p.early t r) r) → Holds p (opening ws [] (first_view p))
-opens p ws sound size zero_clock fields empty values = let v = first_view p in record {
+    → ((r : ℕ) → r < p.records → IsAfter p (value ws r) (λ t. p.early t r) r) → Fixed p (part ws) → Holds p (opening ws [] (first_view p))
+opens p ws sound size zero_clock fields empty values fixed = let v = first_view p in record {
   sized = size;
+  fixed = fixed;
   sound = sound;
   counters = record {
     taken_once = λ t own. let a = (fields t own).1 in (omega arith, omega arith);
@@ -160,9 +163,13 @@ pub flags_fit : (p : Script) (flags : List Bool) → length flags ≡ p.size →
 flags_fit p flags size each t l = ((λ is. let a = (each t l).0 is in ready_all p.size p t (omega arith) a.0 a.1), λ pos. let a = ready_low p.size p t pos in (each t l).1 a.0 a.1)
 
 -- the words that a plan fills in meet the rule
-pub opens_plan : (p : Plan) (ws : List ℕ) → IsFullPlan p → AreHeld p → HasRoom p (length ws) → clock ws ≡ 0 → ((t : ℕ) → is_own p t ≡ true → (need ws t ≡ planned (script p) t) × (turn ws t ≡ 0)) → ((t k : ℕ) → is_own p t ≡ true → k < 1 + length (writes_at p t) → part ws t k ≡ 0)
-    → ((r : ℕ) → r < length p.table.records → value ws r ≡ value_in (after_known p.base p.txns p.known) r) → Holds (script p) (opening ws [] (first_view (script p)))
-opens_plan p ws h held room zero_clock fields empty values = opens (script p) ws (sound p h held) (room.0, room.1, omega arith) zero_clock fields empty (λ r l. starts p h r (value ws r) (values r l))
+pub opens_plan : (layout : Layout) (p : Plan) (first ws : List ℕ) → IsPlanFor layout p → AreHeld p → HasRoom p (length ws) → clock ws ≡ 0 → ((t : ℕ) → is_own p t ≡ true → (need ws t ≡ planned (script p) t) × (turn ws t ≡ 0)) → ((t k : ℕ) → is_own p t ≡ true → k < 1 + length (writes_at p t) → part ws t k ≡ 0)
+    → IsFilled layout p first ws → Holds (script_of layout p) (opening ws [] (first_view (script_of layout p)))
+opens_plan Values p first ws h held room zero_clock fields empty fill = opens (script p) ws (sound_for Values p h held) (room.0, room.1, omega arith) zero_clock fields empty
+    (λ r l. starts p (record { lawful = h.lawful; full = h.full refl }) r (value ws r) (fill.values refl r l)) (λ t k is. absurd (false≢true is))
+opens_plan Versions p first ws h held room zero_clock fields empty fill = opens (script_of Versions p) ws (sound_for Versions p h held) (room.0, omega arith, omega arith) zero_clock fields empty
+    (λ r l. absurd (omega arith)) (λ t k is. let a = and_parts (is_some (known_at p t)) _ is in let b = and_parts (nat_lt 0 k) (nat_lt k (1 + length (writes_at p t))) a.1 in let low = ltb-true 0 k b.0 in let top = ltb-true k (1 + length (writes_at p t)) b.1 in
+    ap (part ws t) {x = k} {y = k - 1 + 1} (omega arith) ∙ (fill.versions refl t (k - 1) (a.0, omega arith) ∙ (ap (λ o. word_of o (k - 1 + 1)) (sym (known_is p h.lawful t a.0)) ∙ ap (word_of (outcome_at p t)) {x = k - 1 + 1} {y = k} (omega arith))))
 
 -- one more position that waits
 pub row_more : (row after : List ℕ) (f : ℕ → ℕ) (t : ℕ) → after ≡ row ++ t ∷ [] → f t ≡ 1 → ((y : ℕ) → y < t → times y row ≡ f y) → ((y : ℕ) → t ≤ y → times y row ≡ 0)
@@ -183,7 +190,7 @@ pub none_is : (b : Bool) → b ≡ false → one_if b ≡ 0
 none_is b e = ap one_if e
 
 -- beyond the block nothing waits
-pub waits_below : (plan : Plan) (s y : ℕ) → IsFullPlan plan → length plan.txns ≤ y → one_if (waits plan s y) ≡ 0
+pub waits_below : (plan : Plan) (s y : ℕ) → IsLawfulPlan plan → length plan.txns ≤ y → one_if (waits plan s y) ≡ 0
 waits_below plan s y h l = ap one_if (go (is_own plan y) refl)
   where
     go : (b : Bool) → is_own plan y ≡ b → waits plan s y ≡ false
@@ -219,26 +226,30 @@ rows_once plan rows h s y = go (dec_lt s (length plan.txns))
     go (yes l) = let a = h.edges s y l in let b = one_most (waits plan s y) in omega arith
     go (no n) = let a = ap (times y) (get_or_past rows s [] (let e = h.long in omega arith)) in omega arith
 
-pub rows_low : (plan : Plan) (rows : List (List ℕ)) → IsFullPlan plan → AreRows plan rows → (s y : ℕ) → 0 < times y (get_or rows s []) → y < length rows
+pub rows_low : (plan : Plan) (rows : List (List ℕ)) → IsLawfulPlan plan → AreRows plan rows → (s y : ℕ) → 0 < times y (get_or rows s []) → y < length rows
 rows_low plan rows h r s y pos = go (dec_lt s (length plan.txns))
   where
     go : Dec (s < length plan.txns) → y < length rows
     go (yes l) = let a = r.edges s y l in let e = edge_is plan h s y (omega arith) in let b = own_below plan h y e.0 in let c = r.long in omega arith
     go (no n) = let a = ap (times y) (get_or_past rows s [] (let e = r.long in omega arith)) in absurd (omega arith)
 
+-- the needs are those that the script plans
+pub need_is : (plan : Plan) (w1 w2 : List ℕ) (rows : List (List ℕ)) (layout : Layout) → AreHeld plan → AreRows plan rows → ((t : ℕ) → need w1 t ≡ below (length rows) (λ s. times t (get_or rows s []))) → IsFilled layout plan w1 w2 → (t : ℕ) → need w2 t ≡ planned (script plan) t
+need_is plan w1 w2 rows layout held rows_are needs fill t = fill.others (38 * t + 1) (λ r e. absurd (omega arith)) (λ x j is e. let w = held.writes x in let l = is.1 in omega arith) ∙ (needs t ∙ needs_planned plan rows t rows_are)
+
+-- what is known isn't own
+known_not_own : (plan : Plan) → IsLawfulPlan plan → (t : ℕ) → is_own plan t ≡ true → is_some (known_at plan t) ≡ true → ⊥
+known_not_own plan h t own known = false≢true (ap is_some (sym (h.own_unknown t own)) ∙ known)
+
 -- the words after the loops
-pub filled : (plan : Plan) (n : ℕ) (w0 w1 w2 : List ℕ) (rows : List (List ℕ)) → IsFullPlan plan → AreHeld plan → AreRows plan rows → w0 ≡ replicate n 0 → HasRoom plan (length w2)
+pub filled : (layout : Layout) (plan : Plan) (n : ℕ) (w0 w1 w2 : List ℕ) (rows : List (List ℕ)) → IsPlanFor layout plan → AreHeld plan → AreRows plan rows → w0 ≡ replicate n 0 → HasRoom plan (length w2)
     → ((t : ℕ) → need w1 t ≡ below (length rows) (λ s. times t (get_or rows s []))) → ((i : ℕ) → ((t : ℕ) → i ≢ need_at t) → get_or w1 i 0 ≡ get_or w0 i 0)
-    → ((r : ℕ) → r < length plan.table.records → value w2 r ≡ value_in (after_known plan.base plan.txns plan.known) r) → ((i : ℕ) → ((r : ℕ) → i ≢ value_place r) → get_or w2 i 0 ≡ get_or w1 i 0)
-    → Holds (script plan) (opening w2 [] (first_view (script plan)))
-filled plan n w0 w1 w2 rows h held rows_are zeros room needs count_others values fill_others = opens_plan plan w2 h held room
-    (fill_others 0 (λ r e. absurd (omega arith)) ∙ (count_others 0 (λ t e. absurd (omega arith)) ∙ zero 0))
-    (λ t own. (need_is t, fill_others (38 * t + 3) (λ r e. absurd (omega arith)) ∙ (count_others (38 * t + 3) (λ x e. absurd (omega arith)) ∙ zero (38 * t + 3))))
-    (λ t k own l. let w = held.writes t in fill_others (38 * t + 5 + 2 * k) (λ r e. absurd (omega arith)) ∙ (count_others (38 * t + 5 + 2 * k) (λ x e. absurd (omega arith)) ∙ zero (38 * t + 5 + 2 * k)))
-    values
+    → IsFilled layout plan w1 w2 → Holds (script_of layout plan) (opening w2 [] (first_view (script_of layout plan)))
+filled layout plan n w0 w1 w2 rows h held rows_are zeros room needs count_others fill = opens_plan layout plan w1 w2 h held room
+    (fill.others 0 (λ r e. absurd (omega arith)) (λ x j is e. absurd (omega arith)) ∙ (count_others 0 (λ t e. absurd (omega arith)) ∙ zero 0))
+    (λ t own. (need_is plan w1 w2 rows layout held rows_are needs fill t, fill.others (38 * t + 3) (λ r e. absurd (omega arith)) (λ x j is e. let w = held.writes x in let l = is.1 in omega arith) ∙ (count_others (38 * t + 3) (λ x e. absurd (omega arith)) ∙ zero (38 * t + 3))))
+    (λ t k own l. let w = held.writes t in fill.others (38 * t + 5 + 2 * k) (λ r e. absurd (omega arith)) (λ x j is e. let v = held.writes x in let lj = is.1 in let same : x ≡ t = omega arith in known_not_own plan h.lawful t own (subst (λ z. is_some (known_at plan z) ≡ true) same is.0)) ∙ (count_others (38 * t + 5 + 2 * k) (λ x e. absurd (omega arith)) ∙ zero (38 * t + 5 + 2 * k)))
+    fill
   where
     zero : (i : ℕ) → get_or w0 i 0 ≡ 0
     zero i = ap (λ ws. get_or ws i 0) zeros ∙ all_same n i 0
-
-    need_is : (t : ℕ) → need w2 t ≡ planned (script plan) t
-    need_is t = fill_others (38 * t + 1) (λ r e. absurd (omega arith)) ∙ (needs t ∙ needs_planned plan rows t rows_are)

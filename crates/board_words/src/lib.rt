@@ -2,10 +2,12 @@
 #![tactic(auto)]
 
 mod closing;
+mod early;
 mod opening;
 mod reading;
 mod room;
 mod values;
+mod versions;
 
 pub use closing::spans_of;
 pub use opening::{Opening, opening_of};

@@ -8,19 +8,19 @@ ghost use Rattle.board_core.specs.Words.{need, need_at};
 ghost use Rattle.board_core.specs.Steps.{ready_below, first_view};
 ghost use Rattle.board_core.specs.Rule.{Holds};
 ghost use Rattle.board_core.specs.Passes.{AreFlags};
-ghost use Rattle.board_work.specs.Scripts.{AreHeld, script, waits};
+ghost use Rattle.board_work.specs.Scripts.{AreHeld, script, script_of, waits};
 ghost use Rattle.board_work.specs.Plans.{plan_of};
 ghost use Rattle.board_steps.specs.Abouts.{HasRoom};
-ghost use Rattle.board_words.specs.Filled.{AreRows, IsBoardPlan};
+ghost use Rattle.board_words.specs.Filled.{AreRows, IsGraphed, IsBoardPlan};
 
-use crate::values::{fill_values, known_values};
-use board_work::Plan;
+use crate::early::fill_known;
+use board_work::{Layout, Plan};
 use std::alloc::Global;
 use txn_types::{GrowingList, OutOfMemory, Preds, Txn};
 
 // Whether t is to be run, and waits for s.
 fn waits_for(plan: &Plan<'_>, s: usize, t: usize) -> bool
-    requires planned { IsBoardPlan plan.now }
+    requires planned { IsGraphed plan.now }
     requires places { (s < length plan.now.block.now.txns) × (t < length plan.now.block.now.txns) }
     ensures { result ≡ waits (plan_of plan.now) s t }
 {
@@ -45,7 +45,7 @@ fn add_where(row: &mut GrowingList<u16>, waits: bool, t: u16) -> Result<(), OutO
 
 // The own positions that wait for s.
 fn row_of(alloc: Global, plan: &Plan<'_>, s: usize) -> Result<GrowingList<u16>, OutOfMemory>
-    requires planned { IsBoardPlan plan.now }
+    requires planned { IsGraphed plan.now }
     requires place { s < length plan.now.block.now.txns }
     ensures short { IfOk result (λ row. length row ≤ 256) }
     ensures edges { IfOk result (λ row. (y : ℕ) → times y row ≡ (script (plan_of plan.now)).edge s y) }
@@ -60,7 +60,7 @@ fn row_of(alloc: Global, plan: &Plan<'_>, s: usize) -> Result<GrowingList<u16>, 
 
 // For each position those that wait for it.
 fn rows_of(alloc: Global, plan: &Plan<'_>) -> Result<Preds, OutOfMemory>
-    requires planned { IsBoardPlan plan.now }
+    requires planned { IsGraphed plan.now }
     ensures { IfOk result (AreRows (plan_of plan.now)) }
 {
     let mut rows = Preds::new(alloc);
@@ -151,27 +151,25 @@ pub struct Opening {
 }
 
 /// The rows, the words and the duties with which a board begins.
-pub fn opening_of(alloc: Global, plan: &Plan<'_>) -> Result<Opening, OutOfMemory>
-    requires planned { IsBoardPlan plan.now }
+pub fn opening_of(
+    alloc: Global,
+    plan: &Plan<'_>,
+    layout: Layout,
+) -> Result<Opening, OutOfMemory>
+    requires planned { IsBoardPlan layout plan.now }
     ensures held { AreHeld (plan_of plan.now) }
     ensures rows { IfOk result (λ o. AreRows (plan_of plan.now) o.rows) }
     ensures room { IfOk result (λ o. HasRoom (plan_of plan.now) (length o.words.items)) }
-    ensures words { IfOk result (λ o. Holds (script (plan_of plan.now)) (opening o.words.items [] (first_view (script (plan_of plan.now))))) }
-    ensures duty { IfOk result (λ o. (length o.duty.items ≡ length plan.now.block.now.txns) × AreFlags (ready_below (length plan.now.block.now.txns) (script (plan_of plan.now))) o.duty.items) }
+    ensures words { IfOk result (λ o. Holds (script_of layout (plan_of plan.now)) (opening o.words.items [] (first_view (script_of layout (plan_of plan.now))))) }
+    ensures duty { IfOk result (λ o. (length o.duty.items ≡ length plan.now.block.now.txns) × AreFlags (ready_below (length plan.now.block.now.txns) (script_of layout (plan_of plan.now))) o.duty.items) }
 {
     let size = plan.block.txns.len();
     let records = plan.table.records.len();
     all_sets_are_held(plan.block.txns.as_slice());
     let rows = rows_of(alloc, plan)?;
-    let values = known_values(
-        alloc,
-        plan.base,
-        plan.block.txns.as_slice(),
-        plan.known.as_slice(),
-    )?;
     let mut words = Vec::from_elem(alloc, 0u64, 38 * size + 2 * records + 1)?;
     count_needs(&mut words, rows.as_slice());
-    fill_values(&mut words, &values);
+    fill_known(alloc, &mut words, plan, layout)?;
     let duty = first_duties(alloc, plan.own.as_slice(), words.as_slice())?;
     Ok(Opening { rows, words, duty })
 }

@@ -1,5 +1,5 @@
 -- What the core of a board knows of a plan.
-use Rattle.std.specs.Prelude.{ℕ, zero, suc, Bool, not, ◌==◌, nat_lt, ◌&&◌, ◌||◌, ◌+◌, ◌≤◌, List, ◌∷◌, length, get_or, Option, Some, None, is_some, if◌then◌else◌}
+use Rattle.std.specs.Prelude.{ℕ, zero, suc, Bool, true, false, not, ◌==◌, nat_lt, ◌&&◌, ◌||◌, ◌+◌, ◌≤◌, List, ◌∷◌, length, get_or, Option, Some, None, is_some, if◌then◌else◌}
 use Rattle.txn_types.specs.declared.txn.Reason.{Reason}
 use Rattle.txn_types.specs.declared.txn.Reason.TheVariants.{Require, Overflow, Underflow, ZeroDivisor, Undeclared}
 use Rattle.txn_types.specs.declared.txn.Outcome.{Outcome}
@@ -12,6 +12,8 @@ use Rattle.oxii_defs.specs.Dependency.{depends}
 use Rattle.known_defs.specs.Known.{txn_at, after_known}
 use Rattle.board_defs.specs.Closure.{Plan, known_at, is_own, run_of, closure, closure_upto}
 use Rattle.board_core.specs.Script.{Script}
+use Rattle.board_work.specs.declared.layout.Layout.{Layout}
+use Rattle.board_work.specs.declared.layout.Layout.TheVariants.{Values, Versions}
 use Rattle.board_core.specs.Traces.{one_if}
 
 -- the records that a position reads, and writes
@@ -96,7 +98,7 @@ waits plan s t = is_own plan t && (not (is_some (known_at plan s)) && is_edge pl
 abbrev pub uses_at : Plan → ℕ → ℕ → Bool
 uses_at plan t r = contains (reads_at plan t) r || contains (writes_at plan t) r
 
--- what the core of a board knows of a plan
+-- what the core of a board knows of a plan, where the words keep the value of each record
 abbrev pub script : Plan → Script
 script plan = record {
   size = length plan.txns;
@@ -106,8 +108,28 @@ script plan = record {
   records = length plan.table.records;
   parts = λ t. 1 + length (writes_at plan t);
   meant = λ t k. word_of (outcome_at plan t) k;
+  fixed = λ t k. false;
   uses = uses_at plan;
   base = value_in plan.base;
   effect = λ t r. gives (outcome_at plan t) (writes_at plan t) r;
   early = λ t r. one_if (is_some (known_at plan t) && is_some (gives (outcome_at plan t) (writes_at plan t) r));
+}
+
+-- whether the words keep the value of each record
+abbrev pub has_values : Layout → Bool
+has_values Values = true
+has_values Versions = false
+
+-- a version word of a known position
+abbrev pub is_early_version : Plan → ℕ → ℕ → Bool
+is_early_version plan t k = is_some (known_at plan t) && (nat_lt 0 k && nat_lt k (1 + length (writes_at plan t)))
+
+-- what the core knows of a plan: where the words keep versions, each is a word that its writer publishes, and there are no value words
+abbrev pub script_of : Layout → Plan → Script
+script_of layout plan = record (script plan) {
+  fixed = λ t k. not (has_values layout) && is_early_version plan t k;
+  records = if has_values layout then length plan.table.records else 0;
+  uses = λ t r. has_values layout && uses_at plan t r;
+  effect = λ t r. if has_values layout then gives (outcome_at plan t) (writes_at plan t) r else None;
+  early = λ t r. if has_values layout then one_if (is_some (known_at plan t) && is_some (gives (outcome_at plan t) (writes_at plan t) r)) else 0;
 }

@@ -1,6 +1,0 @@
-pub mod BoardFacts
-pub mod Closed
-pub mod Firsts
-pub mod Fresh
-pub mod PassFacts
-pub mod StateFacts

@@ -1,6 +1,2 @@
-pub use Rattle.board_work.specs.PassStates
-pub use Rattle.board_work.specs.Plans
-pub use Rattle.board_words.specs.Filled
-pub use Rattle.board_words.specs.Runs
-pub mod Seen
-pub mod Boards
+pub use Rattle.board_frame.specs.Frames
+pub use Rattle.board_frame.specs.Seen

@@ -2,9 +2,6 @@
 #![tactic(auto)]
 
 mod board;
-mod opening;
-mod pass;
 
 pub use board::Board;
-pub use board_work::{Made, Own, Plan, Ran, Span, Spans, Take, Work};
-pub use pass::Pass;
+pub use board_frame::{Made, Own, Pass, Plan, Ran, Span, Spans, Take, Work};

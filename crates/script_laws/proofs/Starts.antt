@@ -52,7 +52,7 @@ module _ (plan : Plan) (h : IsFullPlan plan) where
     value_is : start_value plan m r ≡ serial_value (script plan) cut r
 
   known_gives : (t r : ℕ) → is_some (known_at plan t) ≡ true → gives (known_at plan t) (writes_at plan t) r ≡ gives (outcome_at plan t) (writes_at plan t) r
-  known_gives t r known = ap (λ o. gives o (writes_at plan t) r) (sym (known_is plan h t known))
+  known_gives t r known = ap (λ o. gives o (writes_at plan t) r) (sym (known_is plan h.lawful t known))
 
   not_early : (t r : ℕ) → (is_some (known_at plan t) ≡ false) ⊎ (gives (outcome_at plan t) (writes_at plan t) r ≡ None) → early_at t r ≡ 0
   not_early t r why = of_none (is_some (known_at plan t) && is_some (gives (outcome_at plan t) (writes_at plan t) r)) (λ b. let p = and_parts (is_some (known_at plan t)) (is_some (gives (outcome_at plan t) (writes_at plan t) r)) b in
@@ -79,7 +79,7 @@ module _ (plan : Plan) (h : IsFullPlan plan) where
       let before : (t : ℕ) → t < m → Gives (script plan) t r → 0 < early_at t r = (λ t lt gt.
       let w = gives_is (outcome_at plan t) (writes_at plan t) r (ap is_some gt.1) in
       let u = gives_is (outcome_at plan m) (writes_at plan m) r (ap is_some is) in
-      is_early t r (known_closed plan h t m (writer_before plan h t m r lt w (or_right (contains (reads_at plan m) r) (contains (writes_at plan m) r) u)) known) gt) in
+      is_early t r (known_closed plan h.lawful t m (writer_before plan h t m r lt w (or_right (contains (reads_at plan m) r) (contains (writes_at plan m) r) u)) known) gt) in
       record {
         cut = suc m;
         low = omega arith;
@@ -102,7 +102,7 @@ module _ (plan : Plan) (h : IsFullPlan plan) where
     where
       go : (t : ℕ) → b.cut ≤ t → Dec (t < length plan.txns) → early_at t r ≡ 0
       go t a (yes l) = b.none_from t a l
-      go t a (no n) = ⊎_elim (λ known. absurd (n (known_below plan h t known))) (λ e. not_early t r (inl e)) (cases_Bool (is_some (known_at plan t)))
+      go t a (no n) = ⊎_elim (λ known. absurd (n (known_below plan h.lawful t known))) (λ e. not_early t r (inl e)) (cases_Bool (is_some (known_at plan t)))
 
   -- a word that has the value of its record after the known outcomes
   pub starts : (r word : ℕ) → word ≡ value_in (after_known plan.base plan.txns plan.known) r → IsAfter (script plan) word (λ t. early_at t r) r

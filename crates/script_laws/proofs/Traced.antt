@@ -14,10 +14,11 @@ use Rattle.board_core.specs.Counts.{hit, below, once_below, Run, IsAmong}
 use Rattle.board_core.specs.Script.{Runs}
 use Rattle.board_core.specs.Traces.{IsTrace, one_if, count_of, stamp_hits}
 use Rattle.board_core.proofs.Totals.{hit_same, hit_else, below_one}
-use Rattle.board_defs.specs.Closure.{Plan, known_at, is_own, unless_known, run_outcome, with_position, ran_upto, ran_positions}
+use Rattle.board_defs.specs.Closure.{Plan, IsLawfulPlan, known_at, is_own, unless_known, run_outcome, with_position, ran_upto, ran_positions}
 use Rattle.board_defs.specs.Trace.{Span, stamps, IsLawfulTrace}
-use Rattle.board_work.specs.Scripts.{script, outcome_at}
-use Rattle.script_laws.specs.Laws.{IsFullPlan, IsLawfulClose, TracesAreLawful}
+use Rattle.board_work.specs.declared.layout.Layout.{Layout}
+use Rattle.board_work.specs.Scripts.{script, script_of, outcome_at}
+use Rattle.script_laws.specs.Laws.{IsLawfulClose, TracesAreLawful}
 use Rattle.script_laws.specs.Placed.{span_of_run, with_run, placed}
 use Rattle.script_laws.proofs.Sound.{own_below, edge_of, has_run}
 use Rattle.trace_laws.proofs.Counts.{times_span, stamps_append}
@@ -37,10 +38,10 @@ has_among r (x ∷ xs) h = ⊎_elim (λ e. inl (sym e)) (λ e. inr (has_among r 
 once_at : (n x : ℕ) → x < n → once_below n x ≡ 1
 once_at n x l = below_one n x (hit x) l (λ t ne. hit_else x t ne) ∙ hit_same x x refl
 
-module _ (plan : Plan) (h : IsFullPlan plan) where
+module _ (plan : Plan) (h : IsLawfulPlan plan) where
   -- what an own position comes to is what a run gives it, and a run gives nothing to another
   pub run_own : (t : ℕ) → is_own plan t ≡ true → run_outcome plan t ≡ outcome_at plan t
-  run_own t own = ap (λ k. unless_known k (outcome_at plan t)) (h.lawful.own_unknown t own)
+  run_own t own = ap (λ k. unless_known k (outcome_at plan t)) (h.own_unknown t own)
 
   pub run_other : (t : ℕ) → t < length plan.txns → is_own plan t ≡ false → run_outcome plan t ≡ None
   run_other t l other = go (known_at plan t) refl
@@ -127,7 +128,7 @@ module _ (plan : Plan) (h : IsFullPlan plan) where
         let own_b = (and_parts (is_own plan q.0.0) (is_some (outcome_at plan q.0.0)) (runs_at q.0.0 q.0 q.1)).0 in
         let l' : p.0.0 < q.0.0 = subst (λ (x : Span). x.position < q.0.0) p.2 (subst (λ (x : Span). a.position < x.position) q.2 l) in
         let d' : depends plan.table.kind (txn_at plan.txns p.0.0) (txn_at plan.txns q.0.0) ≡ true = subst (λ (x : Span). depends plan.table.kind (txn_at plan.txns x.position) (txn_at plan.txns q.0.0) ≡ true) p.2 (subst (λ (x : Span). depends plan.table.kind (txn_at plan.txns a.position) (txn_at plan.txns x.position) ≡ true) q.2 d) in
-        let e = edge_of plan h p.0.0 q.0.0 own_b (h.lawful.own_unknown p.0.0 own_a) (and_from (nat_lt p.0.0 q.0.0) (depends plan.table.kind (txn_at plan.txns p.0.0) (txn_at plan.txns q.0.0)) (lt-ltb p.0.0 q.0.0 l') d') in
+        let e = edge_of plan h p.0.0 q.0.0 own_b (h.own_unknown p.0.0 own_a) (and_from (nat_lt p.0.0 q.0.0) (depends plan.table.kind (txn_at plan.txns p.0.0) (txn_at plan.txns q.0.0)) (lt-ltb p.0.0 q.0.0 l') d') in
         subst (λ (x : Span). x.finish < b.begin) (sym p.2) (subst (λ (x : Span). p.0.3 < x.begin) (sym q.2) (trace.ordered p.0.0 q.0.0 p.0 q.0 e p.1 q.1))
 
     of_each : (P : Span → Type 0) → ((t : ℕ) (r : Run) → run_at t ≡ Some r → P (span_of_run r)) → (s : Span) → Has s spans → P s
@@ -156,5 +157,9 @@ module _ (plan : Plan) (h : IsFullPlan plan) where
       );
     }
 
+-- the runs are those of the plan, whatever the words keep
+pub trace_for : (layout : Layout) (plan : Plan) (v : View) (run_at : ℕ → Option Run) → IsTrace (script_of layout plan) v run_at → IsTrace (script plan) v run_at
+trace_for layout plan v run_at h = record { ran = h.ran; rested = h.rested; place = h.place; known = h.known; by_pass = h.by_pass; forward = h.forward; ordered = h.ordered; each_once = h.each_once }
+
 pub traces_law : TracesAreLawful
-traces_law plan v run_at h trace = lawful_close plan h v run_at trace
+traces_law layout plan v run_at h trace = lawful_close plan h v run_at (trace_for layout plan v run_at trace)

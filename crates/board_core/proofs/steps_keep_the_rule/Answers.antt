@@ -1,5 +1,5 @@
 use Rattle.board_core.proofs.Bases.{merges, splits}
-use Rattle.board_core.proofs.CellSteps.{loads_value, publishes, writes}
+use Rattle.board_core.proofs.CellSteps.{loads_part, loads_value, publishes, writes}
 use Rattle.board_core.proofs.Steps.{counts_down, loads, stamps_begin, stamps_finish, swaps}
 use Rattle.board_core.proofs.steps_keep_the_rule.Goals as goal
 
@@ -9,6 +9,7 @@ returns c = λ p. record {
   swap_turn = swaps p;
   begin_stamp = stamps_begin p;
   load_value = loads_value p;
+  load_part = loads_part p;
   publish = publishes p;
   write_value = writes p;
   finish_stamp = stamps_finish p;

@@ -1,5 +1,5 @@
-use Rattle.script_laws.proofs.Sound.{sound}
+use Rattle.script_laws.proofs.Sound.{sound_for}
 use Rattle.script_laws.proofs.scripts_are_sound.Goals as goal
 
 pub returns : goal.returns
-returns c = sound
+returns c = sound_for

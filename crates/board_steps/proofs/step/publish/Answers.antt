@@ -1,6 +1,5 @@
 use Rattle.std.proofs.Common.{arith, sym}
-use Rattle.board_work.specs.Scripts.{script}
-use Rattle.board_steps.specs.Abouts.{told}
+use Rattle.board_steps.specs.Abouts.{scripted}
 use Rattle.board_core.proofs.CellSteps.{publishes}
 use Rattle.board_steps.proofs.step.publish.Goals as goal
 
@@ -8,7 +7,7 @@ pub swap-requires : goal.swap-requires
 swap-requires g c =
     let words = c.args.words.now in
     let seat = c.args.seat.now in
-    let p = script (told words.key) in
+    let p = scripted words.key in
     let e = c.requires.place.0 in
     let d = c.requires.place.1 in
     (c.requires.seat.0, omega arith, rw (sym e, sym d, c.requires.part.2) (publishes p words.table_id.slots seat.id seat.me c.args.t c.args.k c.requires.seat.1 c.requires.held c.requires.part.0))

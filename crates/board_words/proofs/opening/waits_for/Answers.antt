@@ -13,7 +13,7 @@ pub returns : goal.returns
 returns c =
     let plan = plan_of c.args.plan.now in
     let own = subst (λ fs. get_or fs c.args.t false ≡ true) c.as_slice.ensures c.if-not-as_slice-t.false in
-    let long = c.requires.planned.lawful.lawful.known_long in
+    let long = c.requires.planned.lawful.known_long in
     let e = ap length c.as_slice-2.ensures in
     let known = known_is_at c.as_slice-2.result.now c.args.s c.index-as_slice-s.result (omega (arith, c.requires.places.0)) c.index-as_slice-s.is ∙ ap (λ ks. get_or ks c.args.s None) c.as_slice-2.ensures in
     let un = ap is_some (sym known) ∙ (sym c.is_some.ensures ∙ c.if-is_some.false) in

@@ -1,0 +1,6 @@
+pub use Rattle.board_work.specs.PassStates
+pub use Rattle.board_work.specs.Plans
+pub use Rattle.board_words.specs.Filled
+pub use Rattle.board_words.specs.Runs
+pub mod Seen
+pub mod Frames

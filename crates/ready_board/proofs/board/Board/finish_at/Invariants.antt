@@ -1,4 +1,0 @@
-use Rattle.ready_board.proofs.board.Board.finish_at.Given as goal
-
-abbrev pub ghosts-finish_stamp : goal.ghosts-finish_stamp
-ghosts-finish_stamp a = record { from = a.t; to = a.begin }

@@ -1,6 +1,0 @@
-use Rattle.txn_core.specs.MeantTable.{table_of}
-use Rattle.txn_core.specs.States.{state_of}
-use Rattle.ready_board.proofs.opening.about_of.Goals as goal
-
-pub returns : goal.returns
-returns c = (λ i. record { table = table_of (c.of.ensures i); txns = c.of-2.ensures i; base = state_of (c.of-5.ensures i); known = c.of-3.ensures i; own = c.of-4.ensures i })
