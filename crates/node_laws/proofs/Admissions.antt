@@ -4,7 +4,7 @@ use Rattle.std.specs.Bool.{Decides}
 use Rattle.std.specs.Cmp.Lexicographic.{pointwise_decides}
 use Rattle.std.specs.List.{list_any}
 use Rattle.std.proofs.Common.{sym, ◌∙◌, ap, subst, inl, inr, arith}
-use Rattle.std.proofs.lemmas.Bool.{false≢true, and_from, and_parts, eqb-true}
+use Rattle.std.proofs.lemmas.Bool.{false≢true, and_from, and_parts, eqb-true, or_right}
 use Rattle.std.proofs.lemmas.Bool.Decides.{Decides-eqb, nat_tests}
 use Rattle.std.proofs.lemmas.Option.{none-some, same_Some}
 use Rattle.std.proofs.lemmas.Map.Views.{Contains-from_any}
@@ -70,10 +70,6 @@ named_once {A} name_of name i (y ∷ ys) (suc k) x differ at is =
         cond b (Some (i, y)) (first_named name_of name (suc i) ys) ≡ Some (i + suc k, x)
     one true h e = absurd (differ.0 (subst (Contains (map name_of ys)) (is ∙ sym ((name_decides (name_of y) name).0 h)) (let h = stands ys k at in (k, h.0, h.1))))
     one false h e = e
-
-or_right : (b c : Bool) → c ≡ true → (b || c) ≡ true
-or_right true c e = refl
-or_right false c e = e
 
 -- a name that stands in a list is found there
 any_has : (x : Name) (xs : List Name) → Contains xs x → list_any (same_name x) xs ≡ true

@@ -18,9 +18,8 @@ use Rattle.node_defs.specs.Rules.{IsLocal, Rules, in_force}
 use Rattle.node_defs.specs.Same.{same_block, same_list, same_number, same_outcome}
 use Rattle.node_defs.specs.Serial.{IsNumbered, block_at, serial_base, serial_ledger, serial_outcomes_at}
 use Rattle.node_laws.proofs.Counting.{Has, distinct_filter, distinct_senders, honest_among, keep_member}
-use Rattle.node_laws.proofs.Decide.{block_is, outcome_is}
+use Rattle.node_defs.proofs.SameLemmas.{same_block_decides, same_outcome_decides}
 use Rattle.node_laws.proofs.Few.{FewOrderers, IsTameAll, IsTameAt}
-use Rattle.node_laws.proofs.Growing.{same_outcome_refl}
 use Rattle.node_laws.proofs.Order.{length_serial, same_outcome_through, serial_at, within_push}
 use Rattle.node_laws.proofs.Same.{Within}
 use Rattle.node_laws.specs.Agreement.{IsRight, IsSound, SaysRight}
@@ -153,7 +152,7 @@ agreed_right rules l chain faulty me m t tame opens earlier j k right L s o h =
     let found = honest_among same_outcome (is_fit T) (rules.tau T.app) es (tame.agents t j k).named o (distinct_filter (λ (v : ℕ × Outcome). is_agent rules v.0 T) (first_of_each all) (distinct_senders all)) (tame.agents t j k).few h in
     let kept = keep_member (λ (v : ℕ × Outcome). is_agent rules v.0 T) (first_of_each all) found.0 found.1 in
     let honest = (tame.agents t j k).others found.0.0 kept.1 found.2 in
-    outcome_is o found.0.1 found.4
+    (same_outcome_decides o found.0.1).0 found.4
     ∙ for_has faulty (right_at rules chain m t) (first_of_each all) found.0 (for_first faulty (right_at rules chain m t) all (ballots_right rules l chain faulty me m t opens earlier j k right L s)) kept.0 honest
 
 -- a standing is right where what it is agreed with and what it is believed to be are the serial outcome
@@ -247,7 +246,7 @@ accepted_right rules chain faulty m orderers numbered tip L s b h =
     let from = chain_has rules chain faulty (suc m) es found.0 (chain_first rules chain faulty (suc m) goods (goods_right rules chain faulty (suc m) L s)) found.1 in
     let r = from.1 (orderers.others found.0.0 from.0 found.2) in
     let k : r.1.0 ≡ m = let a = numbered r.1.0 r.1.1 in let c : (block_at chain r.1.0).number ≡ suc m = ap (λ (z : Block). z.number) (sym r.1.2) ∙ r.0 in omega arith in
-    (subst (λ z. z < length chain) k r.1.1, block_is b found.0.1 found.4 ∙ (r.1.2 ∙ ap (block_at chain) k))
+    (subst (λ z. z < length chain) k r.1.1, (same_block_decides b found.0.1).0 found.4 ∙ (r.1.2 ∙ ap (block_at chain) k))
 
 -- THE LEDGER
 
@@ -303,8 +302,8 @@ none_differs (o ∷ os) (x ∷ xs) a = or_from (differs x) (list_any differs xs)
     one : (r : Bool) (g b : Option Outcome) → ((p : Outcome) → g ≡ Some p → p ≡ o) → ((p : Outcome) → b ≡ Some p → p ≡ o) → (r && unwrap_or (option_map (λ p. not (same_outcome p (unwrap_or b p))) g) false) ≡ false
     one false g b f h = refl
     one true None b f h = refl
-    one true (Some p) None f h = ap not (same_outcome_refl p)
-    one true (Some p) (Some q) f h = ap not (subst (λ z. same_outcome p z ≡ true) (f p refl ∙ sym (h q refl)) (same_outcome_refl p))
+    one true (Some p) None f h = ap not ((same_outcome_decides p p).1 refl)
+    one true (Some p) (Some q) f h = ap not (subst (λ z. same_outcome p z ≡ true) (f p refl ∙ sym (h q refl)) ((same_outcome_decides p p).1 refl))
 
 length_serial_ledger : (rules : Rules) (chain : List Block) (m : ℕ) → length (serial_ledger rules chain m) ≡ m
 length_serial_ledger rules chain zero = refl

@@ -137,7 +137,7 @@ order_ran rules l w op (e ∷ L) =
     all_append (λ t. did_run rules w t (e ∷ L) ≡ true) (newly_ran rules w e L (length w.txns)) (run_order rules w L) (newly_all rules w e L (length w.txns))
     (all_more (λ t. did_run rules w t L ≡ true) (λ t. did_run rules w t (e ∷ L) ≡ true) (λ t h. keep_at (all_standings rules w L) (all_standings rules w (e ∷ L)) t (standings_keep rules l w op (length w.txns) e L) h) (run_order rules w L) (order_ran rules l w op L))
 
-held_all : (rules : Rules) (w : Work) (P : ℕ → Type 0) (ts : List ℕ) → AllByRecursion P ts → AllByRecursion P (held rules w ts)
+pub held_all : (rules : Rules) (w : Work) (P : ℕ → Type 0) (ts : List ℕ) → AllByRecursion P ts → AllByRecursion P (held rules w ts)
 held_all rules w P [] a = tt
 held_all rules w P (t ∷ ts) a = elim (is_cut rules w (t ∷ ts)) as (λ b. AllByRecursion P (cond b [] (t ∷ held rules w ts))) [ true ↦ tt | false ↦ (a.0, held_all rules w P ts a.1) ]
 

@@ -151,14 +151,6 @@ accepted_chain s chain h p m L good b e = one (length (completed s.rules p m L) 
     one false k = absurd (none-some b k)
     one true k = accepted_right (in_force s.rules (serial_ledger s.rules chain m)) chain (is_faulty s) m (h.tame m).orderers h.numbered (tip s.rules (completed s.rules p m L)) L good b k
 
--- behind it are the first blocks of the chain
-pub completed_chain : (s : Setting) (chain : List Block) → Premises s chain → (p m : ℕ) (L : Log) → Sound s.rules chain (is_faulty s) L → (b : Block) → accepted_at s.rules p m L ≡ Some b → completed s.rules p m L ≡ serial_ledger s.rules chain m
-completed_chain s chain h p m L good b e = one (length (completed s.rules p m L) == m) refl e
-  where
-    one : (c : Bool) → (length (completed s.rules p m L) == m) ≡ c → cond c (accepted s.rules (suc m) (tip s.rules (completed s.rules p m L)) L) None ≡ Some b → completed s.rules p m L ≡ serial_ledger s.rules chain m
-    one false q k = absurd (none-some b k)
-    one true q k = (ledger_right s.rules h.local chain (is_faulty s) h.tame h.numbered p m L good).0 ∙ ap (serial_ledger s.rules chain) (eqb-true _ _ q)
-
 with_chain : (s : Setting) → Premises s s.chain → (p : ℕ) (L : Log) → Sound s.rules s.chain (is_faulty s) L → IsWithChain s p L
 with_chain s h p L good =
     let r = ledger_right s.rules h.local s.chain (is_faulty s) h.tame h.numbered p (length L) L good in

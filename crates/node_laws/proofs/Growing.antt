@@ -4,7 +4,7 @@ use Rattle.txn_types.specs.declared.txn.Reason.TheVariants.{Require, Overflow, U
 use Rattle.std.specs.Prelude.{ℕ, ◌==◌, ◌≤◌, Bool, true, false, ◌&&◌, ◌||◌, not, cond, List, [], ◌∷◌, ◌++◌, map, length, filter_map, Option, Some, None, is_some, unwrap_or, option_map, ◌≡◌, refl, suc, zero}
 use Rattle.std.specs.List.{list_all, cons_option}
 use Rattle.std.proofs.Common.{sym, ◌∙◌, ap, subst, arith}
-use Rattle.std.proofs.lemmas.Bool.{and_parts, and_from, true≢false, false≢true, eq-eqb, eqb-true}
+use Rattle.std.proofs.lemmas.Bool.{and_parts, and_from, not-false, not-true, true≢false, false≢true, eq-eqb, eqb-true}
 use Rattle.std.proofs.lemmas.Option.{none-some, same_Some}
 use Rattle.std.proofs.lemmas.List.{length-append, nil_from_length}
 use Rattle.known_defs.specs.Known.{knows_all, no_outcome, txn_at}
@@ -14,6 +14,7 @@ use Rattle.node_defs.specs.Log.{Letter, Log, newblock_in}
 use Rattle.node_defs.specs.Position.{Standing, Work, agreed, ballots, is_agent, is_ready, own_outcome, standing, standings}
 use Rattle.node_defs.specs.Rules.{IsLocal, Rules, in_force}
 use Rattle.node_defs.specs.Same.{same_block, same_list, same_number, same_option, same_outcome, same_reason}
+use Rattle.node_defs.proofs.SameLemmas.{same_outcome_decides}
 use Rattle.node_laws.proofs.Counting.{grew_filter, grew_first, grew_map, stays_reached}
 use Rattle.node_laws.proofs.Order.{same_outcome_through}
 use Rattle.node_laws.proofs.Same.{Within}
@@ -114,25 +115,6 @@ standings_keep rules l w op (suc t) e L =
 
 -- ONE BLOCK
 
-same_entry_refl : (x : Option ℕ) → same_option same_number x x ≡ true
-same_entry_refl None = refl
-same_entry_refl (Some n) = eq-eqb n n refl
-
-same_reason_refl : (r : Reason) → same_reason r r ≡ true
-same_reason_refl Require = refl
-same_reason_refl Overflow = refl
-same_reason_refl Underflow = refl
-same_reason_refl ZeroDivisor = refl
-same_reason_refl Undeclared = refl
-
-same_list_refl : {A : Type 0} (same : A → A → Bool) → ((x : A) → same x x ≡ true) → (xs : List A) → same_list same xs xs ≡ true
-same_list_refl same h [] = refl
-same_list_refl same h (x ∷ xs) = and_from _ _ (h x) (same_list_refl same h xs)
-
-pub same_outcome_refl : (o : Outcome) → same_outcome o o ≡ true
-same_outcome_refl (Commit w) = same_list_refl (same_option same_number) same_entry_refl w
-same_outcome_refl (Abort r) = same_reason_refl r
-
 -- a position that is agreed and known, and did not differ, is agreed with the same outcome and does not differ later
 agreed_still : (x y : Standing) → Keeps x y → (o : Outcome) → x.believed ≡ Some o → (x.ran ≡ false → x.believed ≡ x.agreed) → is_agreed x ≡ true → (is_agreed y ≡ true) × (agreed_outcome x ≡ agreed_outcome y)
 agreed_still x y k o known unran h = go x.agreed refl
@@ -144,16 +126,8 @@ agreed_still x y k o known unran h = go x.agreed refl
     calm a e f g same = elim y.ran as (λ b. (b && unwrap_or (option_map (λ p. not (same_outcome p (unwrap_or y.believed p))) y.agreed) false) ≡ false) [ false ↦ refl | true ↦ rw f (rw g (rw same refl)) ]
 
     like : (a : Outcome) → x.agreed ≡ Some a → (b : Bool) → x.ran ≡ b → same_outcome a o ≡ true
-    like a e false r = let q : a ≡ o = same_Some a o (sym e ∙ (sym (unran r) ∙ known)) in subst (λ p. same_outcome a p ≡ true) q (same_outcome_refl a)
-    like a e true r = not_not (same_outcome a o) (let d : differs x ≡ false = not_true (differs x) parts.1 in let i : differs x ≡ not (same_outcome a o) = rw r (rw e (rw known refl)) in sym i ∙ d)
-      where
-        not_not : (b : Bool) → not b ≡ false → b ≡ true
-        not_not true h = refl
-        not_not false h = absurd (true≢false h)
-
-        not_true : (b : Bool) → not b ≡ true → b ≡ false
-        not_true true h = absurd (false≢true h)
-        not_true false h = refl
+    like a e false r = let q : a ≡ o = same_Some a o (sym e ∙ (sym (unran r) ∙ known)) in subst (λ p. same_outcome a p ≡ true) q ((same_outcome_decides a a).1 refl)
+    like a e true r = not-false (same_outcome a o) (let d : differs x ≡ false = not-true (differs x) parts.1 in let i : differs x ≡ not (same_outcome a o) = rw r (rw e (rw known refl)) in sym i ∙ d)
 
     go : (a : Option Outcome) → x.agreed ≡ a → (is_agreed y ≡ true) × (agreed_outcome x ≡ agreed_outcome y)
     go None e = absurd (false≢true (sym (ap is_some e) ∙ parts.0))

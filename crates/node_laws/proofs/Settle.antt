@@ -78,8 +78,9 @@ front rules w L (suc n) t h =
     last : n ≤ t → get_or (beliefs_at rules w L n ++ y ∷ []) t None ≡ (standing rules w t (standings rules w t) L).believed
     last e = let k : n ≡ t = omega arith in get_or_push (beliefs_at rules w L n) y None t (length_beliefs rules w L n ∙ k) ∙ ap (λ j. (standing rules w j (standings rules w j) L).believed) k
 
-pair : (xs ys : List (Option Outcome)) (x y : Option Outcome) → xs ≡ ys → x ≡ y → xs ++ x ∷ [] ≡ ys ++ y ∷ []
-pair xs ys x y p q = cc
+-- equal lists with equal last entries
+pub push_same : {A : Type 0} (xs ys : List A) (x y : A) → xs ≡ ys → x ≡ y → xs ++ x ∷ [] ≡ ys ++ y ∷ []
+push_same xs ys x y p q = cc
 
 pub settled : (rules : Rules) (w : Work) (L : Log) (xs : List (Option Outcome)) → w.opens L ≡ true → length xs ≡ length w.txns → Within xs (beliefs_at rules w L (length w.txns)) → AddNothing rules w L xs → (t : ℕ) → t ≤ length w.txns → take t xs ≡ beliefs_at rules w L t
 settled rules w L xs op n within nothing_more zero h = refl
@@ -95,10 +96,10 @@ settled rules w L xs op n within nothing_more (suc t) h =
     one b (Some o) e x q =
         let here : get_or xs t None ≡ Some o = nothing_more t o (omega arith) e in
         let there : believed ≡ Some o = believed_is rules w L t op ∙ (ap (given_of rules w L t) (sym b) ∙ e) in
-        pair (take t xs) (beliefs_at rules w L t) (get_or xs t None) believed b (here ∙ sym there)
+        push_same (take t xs) (beliefs_at rules w L t) (get_or xs t None) believed b (here ∙ sym there)
     one b None e None q =
         let there : believed ≡ None = believed_is rules w L t op ∙ (ap (given_of rules w L t) (sym b) ∙ e) in
-        pair (take t xs) (beliefs_at rules w L t) (get_or xs t None) believed b (q ∙ sym there)
+        push_same (take t xs) (beliefs_at rules w L t) (get_or xs t None) believed b (q ∙ sym there)
     one b None e (Some o) q =
         let there : believed ≡ None = believed_is rules w L t op ∙ (ap (given_of rules w L t) (sym b) ∙ e) in
         absurd (none-some o (sym there ∙ (sym (front rules w L (length w.txns) t (omega arith)) ∙ within_at xs (beliefs_at rules w L (length w.txns)) t o within q)))

@@ -4,10 +4,6 @@ pub mod OneCutting
 pub mod LawfulBodies
 pub mod Agreement
 pub mod OneWorld
-pub mod RowSettings
-pub mod Rows
-pub mod RowTexts
 pub mod OneText
-pub mod RowReal
-pub mod RowCuts
 pub mod Admissions
+pub mod Named

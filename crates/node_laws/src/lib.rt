@@ -9,7 +9,6 @@ ghost use Rattle.node_laws.specs.LawfulBodies.{LawfulBodies, LawfulPieces, Named
 ghost use Rattle.node_laws.specs.OneCutting.{ExactlyOneCutting, OneCutting};
 ghost use Rattle.node_laws.specs.OneText.{OneText};
 ghost use Rattle.node_laws.specs.OneWorld.{AllEnds, OneWorld};
-ghost use Rattle.node_laws.specs.RowReal.{RowsAreReal, WorkedRows};
 
 /// What a log has accepted, run, agreed, known, believed and completed stays so for each longer log.
 pub fn growth()
@@ -74,14 +73,4 @@ pub fn exactly_one_cutting()
 /// With a lawful table and lawful limits, an input has exactly one text.
 pub fn one_text()
     ensures { OneText }
-{}
-
-/// A tame row that is told rightly comes to the same with the operations of its table.
-pub fn rows_are_real()
-    ensures { RowsAreReal }
-{}
-
-/// The worked rows come out of the definitions.
-pub fn worked_rows()
-    ensures { WorkedRows }
 {}

@@ -7,7 +7,7 @@ use Rattle.std.specs.Cmp.{nat_eq_equiv}
 use Rattle.std.proofs.Common.{sym, ◌∙◌, ap, subst, arith, ⊎_elim, zero-add, eqb}
 use Rattle.std.proofs.lemmas.Map.Made.{length-le_from_is_member}
 use Rattle.std.proofs.lemmas.List.Folds.{list_any-append}
-use Rattle.std.proofs.lemmas.Bool.{cases_lt, eqb-true, or_cases}
+use Rattle.std.proofs.lemmas.Bool.{and_right, cases_lt, eqb-true, or_cases}
 use Rattle.std.proofs.lemmas.Option.{none-some}
 use Rattle.std.proofs.lemmas.List.{append-nil, length-map}
 use Rattle.node_laws.proofs.Growing.{ledger_grows, after_keeps, full_stays}
@@ -174,14 +174,10 @@ halt_not_all n t [] xs h e = absurd (none-some h e)
 halt_not_all n t (txn ∷ txns) [] h e = absurd (none-some h e)
 halt_not_all n t (txn ∷ txns) (x ∷ xs) h e = one (differs x) refl (is_some x.agreed) e (halt_not_all n (suc t) txns xs h)
   where
-    none : (b c : Bool) → c ≡ false → (b && c) ≡ false
-    none true c q = q
-    none false c q = refl
-
     one : (d : Bool) → differs x ≡ d → (a : Bool) → option_or (halt_at n t txn x) (first_halt n (suc t) txns xs) ≡ Some h → (first_halt n (suc t) txns xs ≡ Some h → list_all is_agreed xs ≡ false) → ((a && not (differs x)) && list_all is_agreed xs) ≡ false
     one true q true k more = rw q refl
     one true q false k more = refl
-    one false q a k more = none (a && not (differs x)) (list_all is_agreed xs) (more (subst (λ b. option_or (cond {A = Option Halt} b (Some (record { n = n; t = t; writes = txn.writes; ran = unwrap_or x.believed no_outcome; voted = agreed_outcome x })) None) (first_halt n (suc t) txns xs) ≡ Some h) q k))
+    one false q a k more = and_right (a && not (differs x)) (list_all is_agreed xs) (more (subst (λ b. option_or (cond {A = Option Halt} b (Some (record { n = n; t = t; writes = txn.writes; ran = unwrap_or x.believed no_outcome; voted = agreed_outcome x })) None) (first_halt n (suc t) txns xs) ≡ Some h) q k))
 
 -- two outcomes differ
 pub splits : (rules : Rules) (me m : ℕ) (e : Letter) (L : Log) (b : Block) (cast : Casts) (done : List Entry) (work : InWork) (commits : List Commit) (h : Halt)

@@ -2,12 +2,13 @@
 use Rattle.std.specs.Prelude.{ℕ, ◌==◌, ◌<◌, ◌≤◌, ◌≡◌, Bool, true, false, ◌&&◌, ◌||◌, not, cond, List, [], ◌∷◌, ◌++◌, map, reverse, replicate, length, get_or, Option, Some, None, is_some, unwrap_or, nat_lt, zero, suc, refl}
 use Rattle.std.specs.List.{AllByRecursion}
 use Rattle.std.proofs.Common.{sym, ◌∙◌, ap, arith, ⊎_elim}
-use Rattle.std.proofs.lemmas.Bool.{false≢true, cases_lt, eqb-true, eq-eqb, lt-ltb, le-ltb}
+use Rattle.std.proofs.Math.Bool.{and-false}
+use Rattle.std.proofs.lemmas.Bool.{false≢true, and_parts, cases_lt, eqb-true, eq-eqb, lt-ltb, le-ltb}
 use Rattle.std.proofs.lemmas.Option.{same_Some}
 use Rattle.std.proofs.lemmas.List.{get_or_past}
 use Rattle.node_laws.proofs.Growing.{StaysOpen, standings_keep, ledger_grows, stays_open, after_keeps}
-use Rattle.node_laws.proofs.Settle.{beliefs_at, front, length_beliefs}
-use Rattle.node_laws.proofs.AgreeSent.{order_ran, keep_at}
+use Rattle.node_laws.proofs.Settle.{beliefs_at, front, length_beliefs, push_same}
+use Rattle.node_laws.proofs.AgreeSent.{held_all, order_ran, keep_at}
 use Rattle.peer_laws.proofs.Unopened.{said_is, no_order, length_standings, nothing_believed, unrun}
 use Rattle.peer_laws.proofs.Turn.{ran_is, did_run_is}
 use Rattle.oxii_defs.specs.State.{contains}
@@ -127,23 +128,15 @@ vote_stays (x ∷ xs) (y ∷ ys) k (suc t) s r = let m = vote_stays xs ys k.1 t 
 ran_believed : (rules : Rules) (w : Work) (K : Log) (t : ℕ) → did_run rules w t K ≡ true → is_some (get_or (all_standings rules w K) t no_standing).believed ≡ true
 ran_believed rules w K t h = ⊎_elim inside (λ l. absurd (false≢true (sym (ap (λ (s : Standing). s.ran) (get_or_past (all_standings rules w K) t no_standing (omega (arith, length_standings rules w K (length w.txns), l)))) ∙ h))) (cases_lt t (length w.txns))
   where
-    right : (a b : Bool) → (a && b) ≡ true → b ≡ true
-    right true b q = q
-    right false b q = absurd (false≢true q)
-
     inside : t < length w.txns → is_some (get_or (all_standings rules w K) t no_standing).believed ≡ true
-    inside l = ap is_some (believed_at (all_standings rules w K) t) ∙ right (is_agent rules w.me (txn_at w.txns t)) _ (sym (did_run_is rules w K t l) ∙ h)
-
-held_ran : (rules : Rules) (w : Work) (P : ℕ → Type 0) (ts : List ℕ) → AllByRecursion P ts → AllByRecursion P (held rules w ts)
-held_ran rules w P [] a = tt
-held_ran rules w P (t ∷ ts) a = elim (is_cut rules w (t ∷ ts)) as (λ b. AllByRecursion P (cond b [] (t ∷ held rules w ts))) [ true ↦ tt | false ↦ (a.0, held_ran rules w P ts a.1) ]
+    inside l = ap is_some (believed_at (all_standings rules w K) t) ∙ (and_parts (is_agent rules w.me (txn_at w.txns t)) _ (sym (did_run_is rules w K t l) ∙ h)).1
 
 -- what was held is held with the same votes
 pub held_keeps : (rules : Rules) → IsLocal rules → (w : Work) → StaysOpen w → (e : Letter) (L : Log) → map (vote_on (all_standings rules w L)) (held rules w (run_order rules w L)) ≡ map (vote_of (beliefs_at rules w (e ∷ L) (length w.txns))) (held rules w (run_order rules w L))
 held_keeps rules l w op e L =
     map_same (vote_on (all_standings rules w L)) (vote_of (beliefs_at rules w (e ∷ L) (length w.txns))) (λ t. did_run rules w t L ≡ true)
     (λ t r. vote_stays (all_standings rules w L) (all_standings rules w (e ∷ L)) (standings_keep rules l w op (length w.txns) e L) t (ran_believed rules w L t) r ∙ vote_is rules w (e ∷ L) t)
-    (held rules w (run_order rules w L)) (held_ran rules w (λ t. did_run rules w t L ≡ true) (run_order rules w L) (order_ran rules l w op L))
+    (held rules w (run_order rules w L)) (held_all rules w (λ t. did_run rules w t L ≡ true) (run_order rules w L) (order_ran rules l w op L))
 
 -- WHAT RAN
 
@@ -151,29 +144,26 @@ pub contains-append : (xs ys : List ℕ) (t : ℕ) → contains (xs ++ ys) t ≡
 contains-append [] ys t = refl
 contains-append (x ∷ xs) ys t = elim (t == x) as (λ b. (b || contains (xs ++ ys) t) ≡ ((b || contains xs t) || contains ys t)) [ true ↦ refl | false ↦ contains-append xs ys t ]
 
+-- the places below n at which a test holds, with one place more
+pub place_more : (B : ℕ → Bool) (n t : ℕ) (xs : List ℕ) → contains xs t ≡ (nat_lt t n && B t) → contains (cond (B n) (n ∷ xs) xs) t ≡ (nat_lt t (suc n) && B t)
+place_more B n t xs ih = one (B n) refl
+  where
+    rest : (n ≡ t → B t ≡ false) → contains xs t ≡ (nat_lt t (suc n) && B t)
+    rest h = ⊎_elim (λ lt. ih ∙ ap (λ b. b && B t) (lt-ltb t n lt ∙ sym (lt-ltb t (suc n) (omega arith))))
+        (λ ge. ih ∙ (ap (λ b. b && B t) (le-ltb t n ge) ∙ ⊎_elim (λ lt. let q : n ≡ t = omega arith in sym (rw (h q) (and-false (nat_lt t (suc n))))) (λ ge2. sym (ap (λ b. b && B t) (le-ltb t (suc n) ge2))) (cases_lt t (suc n)))) (cases_lt t n)
+
+    one : (b : Bool) → B n ≡ b → contains (cond b (n ∷ xs) xs) t ≡ (nat_lt t (suc n) && B t)
+    one false q = rest (λ s. ap B (sym s) ∙ q)
+    one true q = two (t == n) refl
+      where
+        two : (c : Bool) → (t == n) ≡ c → (c || contains xs t) ≡ (nat_lt t (suc n) && B t)
+        two true s = let k : n ≡ t = sym (eqb-true t n s) in sym (rw (lt-ltb t (suc n) (omega (arith, k))) (ap B (sym k) ∙ q))
+        two false s = rest (λ k. absurd (false≢true (sym s ∙ eq-eqb t n (sym k))))
+
 -- among the first n positions
 in_newly : (rules : Rules) (w : Work) (e : Letter) (L : Log) (n t : ℕ) → contains (newly_ran rules w e L n) t ≡ (nat_lt t n && (did_run rules w t (e ∷ L) && not (did_run rules w t L)))
 in_newly rules w e L zero t = rw (le-ltb t 0 (omega arith)) refl
-in_newly rules w e L (suc n) t = one (did_run rules w n (e ∷ L) && not (did_run rules w n L)) refl (in_newly rules w e L n t)
-  where
-    B : ℕ → Bool
-    B u = did_run rules w u (e ∷ L) && not (did_run rules w u L)
-
-    rest : contains (newly_ran rules w e L n) t ≡ (nat_lt t n && B t) → (n ≡ t → B t ≡ false) → contains (newly_ran rules w e L n) t ≡ (nat_lt t (suc n) && B t)
-    rest ih h = ⊎_elim (λ lt. ih ∙ ap (λ b. b && B t) (lt-ltb t n lt ∙ sym (lt-ltb t (suc n) (omega arith))))
-        (λ ge. ih ∙ (ap (λ b. b && B t) (le-ltb t n ge) ∙ ⊎_elim (λ lt. let q : n ≡ t = omega arith in sym (rw (h q) (both (nat_lt t (suc n))))) (λ ge2. sym (ap (λ b. b && B t) (le-ltb t (suc n) ge2))) (cases_lt t (suc n)))) (cases_lt t n)
-      where
-        both : (b : Bool) → (b && false) ≡ false
-        both true = refl
-        both false = refl
-
-    one : (b : Bool) → B n ≡ b → contains (newly_ran rules w e L n) t ≡ (nat_lt t n && B t) → contains (cond b (n ∷ newly_ran rules w e L n) (newly_ran rules w e L n)) t ≡ (nat_lt t (suc n) && B t)
-    one false q ih = rest ih (λ s. ap B (sym s) ∙ q)
-    one true q ih = two (t == n) refl
-      where
-        two : (c : Bool) → (t == n) ≡ c → (c || contains (newly_ran rules w e L n) t) ≡ (nat_lt t (suc n) && B t)
-        two true s = let k : n ≡ t = sym (eqb-true t n s) in sym (rw (lt-ltb t (suc n) (omega (arith, k))) (ap B (sym k) ∙ q))
-        two false s = rest ih (λ k. absurd (false≢true (sym s ∙ eq-eqb t n (sym k))))
+in_newly rules w e L (suc n) t = place_more (λ u. did_run rules w u (e ∷ L) && not (did_run rules w u L)) n t (newly_ran rules w e L n) (in_newly rules w e L n t)
 
 -- the run order has each position that ran
 pub in_order : (rules : Rules) → IsLocal rules → (w : Work) → StaysOpen w → w.opens [] ≡ false → (t : ℕ) → t < length w.txns → (L : Log) → contains (run_order rules w L) t ≡ did_run rules w t L
@@ -205,7 +195,7 @@ made_standing a b x y u v p q r = cc
 pub shown_is : (rules : Rules) (w : Work) (K : Log) (votes : ℕ → List (ℕ × Outcome)) → ((t : ℕ) → t < length w.txns → votes t ≡ ballots rules w t (standings rules w t) K) → (n : ℕ) → n ≤ length w.txns → shown rules w.me w.txns (beliefs_at rules w K (length w.txns)) votes n ≡ standings rules w n K
 shown_is rules w K votes h zero l = refl
 shown_is rules w K votes h (suc t) l =
-    pair (shown rules w.me w.txns known votes t) (standings rules w t K) (shown_one rules w.me (txn_at w.txns t) (get_or known t None) (agreed_in rules (txn_at w.txns t) (votes t))) (standing rules w t (standings rules w t) K) (shown_is rules w K votes h t (omega arith))
+    push_same (shown rules w.me w.txns known votes t) (standings rules w t K) (shown_one rules w.me (txn_at w.txns t) (get_or known t None) (agreed_in rules (txn_at w.txns t) (votes t))) (standing rules w t (standings rules w t) K) (shown_is rules w K votes h t (omega arith))
     (made_standing (is_agent rules w.me (txn_at w.txns t) && is_some (get_or known t None)) (standing rules w t (standings rules w t) K).ran
     (agreed_in rules (txn_at w.txns t) (votes t)) (standing rules w t (standings rules w t) K).agreed
     (get_or known t None) (standing rules w t (standings rules w t) K).believed
@@ -213,6 +203,3 @@ shown_is rules w K votes h (suc t) l =
   where
     known : List (Option Outcome)
     known = beliefs_at rules w K (length w.txns)
-
-    pair : (xs ys : List Standing) (x y : Standing) → xs ≡ ys → x ≡ y → xs ++ x ∷ [] ≡ ys ++ y ∷ []
-    pair xs ys x y p q = cc

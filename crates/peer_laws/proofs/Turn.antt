@@ -4,7 +4,7 @@ use Rattle.std.specs.List.{AllByRecursion}
 use Rattle.std.proofs.Common.{sym, ◌∙◌, ap, arith, append_assoc}
 use Rattle.std.proofs.lemmas.List.{map_push}
 use Rattle.node_laws.proofs.Growing.{StaysOpen}
-use Rattle.node_laws.proofs.Settle.{beliefs_at, front, believed_is}
+use Rattle.node_laws.proofs.Settle.{beliefs_at, front, believed_is, push_same}
 use Rattle.node_laws.proofs.Batches.{old_batches}
 use Rattle.node_laws.proofs.AgreeSent.{order_ran}
 use Rattle.peer_laws.proofs.Unopened.{standing_at}
@@ -24,13 +24,10 @@ foreign rules w t e L h = rw h refl
 pub found_is : (rules : Rules) (w : Work) (L : Log) → w.opens L ≡ true → (votes : ℕ → Option Outcome) → ((t : ℕ) → t < length w.txns → is_agent rules w.me (txn_at w.txns t) ≡ false → votes t ≡ agreed rules w t (standings rules w t) L) → (t : ℕ) → t ≤ length w.txns → found_upto rules w.me w.txns w.base votes t ≡ beliefs_at rules w L t
 found_is rules w L op votes h zero n = refl
 found_is rules w L op votes h (suc t) n =
-    pair (found_upto rules w.me w.txns w.base votes t) (beliefs_at rules w L t) (found_one rules w.me w.txns w.base (votes t) (txn_at w.txns t) (found_upto rules w.me w.txns w.base votes t)) (standing rules w t (standings rules w t) L).believed (found_is rules w L op votes h t (omega arith))
+    push_same (found_upto rules w.me w.txns w.base votes t) (beliefs_at rules w L t) (found_one rules w.me w.txns w.base (votes t) (txn_at w.txns t) (found_upto rules w.me w.txns w.base votes t)) (standing rules w t (standings rules w t) L).believed (found_is rules w L op votes h t (omega arith))
     (ap (found_one rules w.me w.txns w.base (votes t) (txn_at w.txns t)) (found_is rules w L op votes h t (omega arith)) ∙ (one (is_agent rules w.me (txn_at w.txns t)) refl (knows_all rules.table.kind (txn_at w.txns t) w.txns (beliefs_at rules w L t)) ∙ sym (believed_is rules w L t op)))
     ∙ sym (map_push (λ (s : Standing). s.believed) (standings rules w t L) (standing rules w t (standings rules w t) L))
   where
-    pair : (xs ys : List (Option Outcome)) (x y : Option Outcome) → xs ≡ ys → x ≡ y → xs ++ x ∷ [] ≡ ys ++ y ∷ []
-    pair xs ys x y p q = cc
-
     own : Option Outcome
     own = Some (own_outcome rules w t (standings rules w t) L)
 

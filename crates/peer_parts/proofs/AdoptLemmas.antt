@@ -1,7 +1,7 @@
 -- What others' votes offer is taken over.
 use Rattle.std.specs.Prelude.{ℕ, ◌+◌, ◌<◌, ◌≡◌, Bool, true, false, not, ◌&&◌, is_some, cond, List, length, get_or, set, take, Option, Some, None, refl}
 use Rattle.std.proofs.Common.{sym, ◌∙◌, ap, subst, arith, ⊎_elim}
-use Rattle.std.proofs.lemmas.Bool.{false≢true, cases_eq, cases_lt}
+use Rattle.std.proofs.lemmas.Bool.{false≢true, not-true, cases_eq, cases_lt}
 use Rattle.std.proofs.lemmas.Option.{none-some, same_Some}
 use Rattle.txn_types.specs.declared.txn.Outcome.{Outcome}
 use Rattle.known_defs.specs.Known.{txn_at, knows_all}
@@ -42,14 +42,10 @@ adopt_closed plan agreed xs t n l s c u o lt other h = ⊎_elim (λ below. learn
     given : given_by plan (get_or agreed u None) u (take u xs) ≡ Some o
     given = ap (given_by plan (get_or agreed u None) u) (sym (learned_front xs t y u (omega arith))) ∙ h
 
-    not_own : (b : Bool) → not b ≡ true → b ≡ false
-    not_own true q = absurd (false≢true q)
-    not_own false q = refl
-
     here : u ≡ t → get_or (learned xs t y) u None ≡ Some o
     here e =
         let g : given_by plan (get_or agreed t None) t (take t xs) ≡ Some o = subst (λ i. given_by plan (get_or agreed i None) i (take i xs) ≡ Some o) e given in
-        let apart : is_own plan t ≡ false = not_own (is_own plan t) (subst (λ i. not (is_own plan i) ≡ true) e other) in
+        let apart : is_own plan t ≡ false = not-true (is_own plan t) (subst (λ i. not (is_own plan i) ≡ true) e other) in
         let f = sound_given plan agreed xs t o n s l g in
         ap (λ i. get_or (learned xs t y) i None) e ∙ learned_here xs t y o lx (ap (λ (b : Bool). cond b None (given_by plan (get_or agreed t None) t (take t xs))) apart ∙ g) (λ p q. same_Some p o (sym (s t p q) ∙ f))
 

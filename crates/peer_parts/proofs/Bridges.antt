@@ -12,6 +12,7 @@ use Rattle.known_defs.specs.Known.{txn_at, knows_all, no_outcome}
 use Rattle.node_defs.specs.Rules.{Rules, rules_of, in_force_behind}
 use Rattle.node_defs.specs.Position.{Standing, is_agent}
 use Rattle.node_defs.specs.Ledger.{agreed_outcome}
+use Rattle.node_laws.proofs.Settle.{push_same}
 use Rattle.board_defs.specs.Closure.{Plan, is_own, run_of}
 use Rattle.peer_laws.specs.Turns.{found_upto, found_one, shown, shown_one, agreed_in}
 use Rattle.peer_parts.specs.Found.{found_by, given_by}
@@ -24,14 +25,11 @@ pub found_same : (table : Table) (genesis : State) (behind : List Block) (me : �
     → (t : ℕ) → t ≤ length plan.txns → found_by plan agreed t ≡ found_upto (in_force_behind (rules_of table genesis) behind) me plan.txns plan.base votes t
 found_same table genesis behind me plan agreed votes same own a zero l = refl
 found_same table genesis behind me plan agreed votes same own a (suc t) l =
-    pair (found_by plan agreed t) (found_upto r me plan.txns plan.base votes t) (given_by plan (get_or agreed t None) t (found_by plan agreed t)) (found_one r me plan.txns plan.base (votes t) (txn_at plan.txns t) (found_upto r me plan.txns plan.base votes t))
+    push_same (found_by plan agreed t) (found_upto r me plan.txns plan.base votes t) (given_by plan (get_or agreed t None) t (found_by plan agreed t)) (found_one r me plan.txns plan.base (votes t) (txn_at plan.txns t) (found_upto r me plan.txns plan.base votes t))
     (found_same table genesis behind me plan agreed votes same own a t (omega arith)) (one (found_by plan agreed t) (found_upto r me plan.txns plan.base votes t) (found_same table genesis behind me plan agreed votes same own a t (omega arith)))
   where
     r : Rules
     r = in_force_behind (rules_of table genesis) behind
-
-    pair : (xs ys : List (Option Outcome)) (x y : Option Outcome) → xs ≡ ys → x ≡ y → xs ++ x ∷ [] ≡ ys ++ y ∷ []
-    pair xs ys x y p q = cc
 
     with_table : Table → List (Option Outcome) → Bool → Option Outcome → Option Outcome
     with_table tb xs b v = cond (knows_all tb.kind (txn_at plan.txns t) plan.txns xs) (cond b (Some (run_of (record { table = tb; txns = plan.txns; base = plan.base; known = plan.known; own = plan.own }) t xs)) v) None

@@ -15,32 +15,13 @@ use Rattle.node_defs.specs.Rules.{Rules}
 use Rattle.node_defs.specs.Position.{Work, is_agent}
 use Rattle.node_defs.specs.Sent.{held, is_cut, all_own_in, other_app_follows}
 use Rattle.peer_laws.specs.Turns.{plain, has_run, just_ran, cuts_made, vote_of, cut_of, IsOrder, CutsMade}
-use Rattle.peer_laws.proofs.Steps.{contains-append}
+use Rattle.peer_laws.proofs.Steps.{contains-append, place_more}
 use Rattle.peer_parts.specs.Owning.{IsOwn}
 use Rattle.peer_parts.specs.Holding.{none_left, cut_behind, has_just, held_if, sent_if}
 
 in_just : (rules : Rules) (me : ℕ) (txns : List Txn) (before after : List (Option Outcome)) (n t : ℕ) → contains (just_ran rules me txns before after n) t ≡ (nat_lt t n && (has_run rules me txns after t && not (is_some (get_or before t None))))
 in_just rules me txns before after zero t = rw (le-ltb t 0 (omega arith)) refl
-in_just rules me txns before after (suc n) t = one (B n) refl (in_just rules me txns before after n t)
-  where
-    B : ℕ → Bool
-    B u = has_run rules me txns after u && not (is_some (get_or before u None))
-
-    both : (b : Bool) → (b && false) ≡ false
-    both true = refl
-    both false = refl
-
-    rest : contains (just_ran rules me txns before after n) t ≡ (nat_lt t n && B t) → (n ≡ t → B t ≡ false) → contains (just_ran rules me txns before after n) t ≡ (nat_lt t (suc n) && B t)
-    rest ih h = ⊎_elim (λ lt. ih ∙ ap (λ b. b && B t) (lt-ltb t n lt ∙ sym (lt-ltb t (suc n) (omega arith))))
-        (λ ge. ih ∙ (ap (λ b. b && B t) (le-ltb t n ge) ∙ ⊎_elim (λ lt. let q : n ≡ t = omega arith in sym (rw (h q) (both (nat_lt t (suc n))))) (λ ge2. sym (ap (λ b. b && B t) (le-ltb t (suc n) ge2))) (cases_lt t (suc n)))) (cases_lt t n)
-
-    one : (b : Bool) → B n ≡ b → contains (just_ran rules me txns before after n) t ≡ (nat_lt t n && B t) → contains (cond b (n ∷ just_ran rules me txns before after n) (just_ran rules me txns before after n)) t ≡ (nat_lt t (suc n) && B t)
-    one false q ih = rest ih (λ s. ap B (sym s) ∙ q)
-    one true q ih = two (t == n) refl
-      where
-        two : (c : Bool) → (t == n) ≡ c → (c || contains (just_ran rules me txns before after n) t) ≡ (nat_lt t (suc n) && B t)
-        two true s = let k : n ≡ t = sym (eqb-true t n s) in sym (rw (lt-ltb t (suc n) (omega (arith, k))) (ap B (sym k) ∙ q))
-        two false s = rest ih (λ k. absurd (false≢true (sym s ∙ eq-eqb t n (sym k))))
+in_just rules me txns before after (suc n) t = place_more (λ u. has_run rules me txns after u && not (is_some (get_or before u None))) n t (just_ran rules me txns before after n) (in_just rules me txns before after n t)
 
 -- with t, all those below it that have just run, and those before
 own_in : (rules : Rules) (me : ℕ) (b : Block) (own : List Bool) (before after : List (Option Outcome)) (order : List ℕ) → IsOwn rules me b.txns own → IsOrder rules me b before order → (t : ℕ) → is_some (get_or after t None) ≡ true → (u : ℕ) → u ≤ length b.txns → all_own_in rules (plain me b.txns) (t ∷ (just_ran rules me b.txns before after t ++ order)) u ≡ none_left own before after t u
@@ -119,10 +100,6 @@ cuts_more rules me n b own before after order lo is io held1 held2 sent0 sent1 s
     just : has_just own before after t ≡ (has_run rules me b.txns after t && not (is_some (get_or before t None)))
     just = ap (λ a. (a && is_some (get_or after t None)) && not (is_some (get_or before t None))) (is t lt)
 
-    right : (x y : Bool) → (x && y) ≡ true → y ≡ true
-    right true y q = q
-    right false y q = absurd (false≢true q)
-
     one : (k : Bool) → (has_run rules me b.txns after t && not (is_some (get_or before t None))) ≡ k → CutsUpto rules me n b before after order held2 sent0 sent2 (suc t)
     one false q = record {
       holds = h ∙ (ap (λ x. cond x (held_if X (vote_of after t) held1) held1) (just ∙ q) ∙ (c.holds ∙ sym (ap (λ x. reverse (map (vote_of after) (held rules w (cond x (t ∷ J) J ++ order)))) q)));
@@ -134,7 +111,7 @@ cuts_more rules me n b own before after order lo is io held1 held2 sent0 sent1 s
     }
       where
         cut : is_cut rules w (t ∷ (J ++ order)) ≡ X
-        cut = cut_is rules me b own before after order lo is io t (right (is_agent rules me (txn_at b.txns t)) (is_some (get_or after t None)) (and_parts _ _ q).0)
+        cut = cut_is rules me b own before after order lo is io t (and_parts (is_agent rules me (txn_at b.txns t)) (is_some (get_or after t None)) (and_parts _ _ q).0).1
 
         pushed : held1 ++ vote_of after t ∷ [] ≡ reverse (map (vote_of after) (t ∷ held rules w (J ++ order)))
         pushed = ap (λ vs. vs ++ vote_of after t ∷ []) c.holds ∙ sym (reverse-append (vote_of after t ∷ []) (map (vote_of after) (held rules w (J ++ order))))

@@ -13,6 +13,7 @@ use Rattle.board_defs.specs.Closure.{Plan, is_own, run_of}
 use Rattle.node_laws.proofs.Same.{Within, rules_local}
 use Rattle.node_laws.proofs.Growing.{knows_still}
 use Rattle.node_laws.proofs.Order.{same_outcome_through, within_push}
+use Rattle.node_laws.proofs.Settle.{push_same}
 use Rattle.peer_parts.specs.Found.{given_by, found_by, IsSound}
 
 pub length_found : (plan : Plan) (agreed : List (Option Outcome)) (n : ℕ) → length (found_by plan agreed n) ≡ n
@@ -83,10 +84,7 @@ all_found plan agreed xs n s closed (suc t) h =
     let lx : t < length xs = omega (arith, n, h) in
     take-suc xs t None lx ∙ one (all_found plan agreed xs n s closed t (omega arith)) (get_or xs t None) refl (given_by plan (get_or agreed t None) t (found_by plan agreed t)) refl
   where
-    pair : (us vs : List (Option Outcome)) (x y : Option Outcome) → us ≡ vs → x ≡ y → us ++ x ∷ [] ≡ vs ++ y ∷ []
-    pair us vs x y p q = cc
-
     one : take t xs ≡ found_by plan agreed t → (x : Option Outcome) → get_or xs t None ≡ x → (y : Option Outcome) → given_by plan (get_or agreed t None) t (found_by plan agreed t) ≡ y → take t xs ++ get_or xs t None ∷ [] ≡ found_by plan agreed t ++ given_by plan (get_or agreed t None) t (found_by plan agreed t) ∷ []
-    one b x e (Some o) f = pair (take t xs) (found_by plan agreed t) (get_or xs t None) _ b (closed t o (omega arith) (ap (given_by plan (get_or agreed t None) t) b ∙ f) ∙ sym f)
-    one b None e None f = pair (take t xs) (found_by plan agreed t) (get_or xs t None) _ b (e ∙ sym f)
+    one b x e (Some o) f = push_same (take t xs) (found_by plan agreed t) (get_or xs t None) _ b (closed t o (omega arith) (ap (given_by plan (get_or agreed t None) t) b ∙ f) ∙ sym f)
+    one b None e None f = push_same (take t xs) (found_by plan agreed t) (get_or xs t None) _ b (e ∙ sym f)
     one b (Some o) e None f = absurd (none-some o (sym f ∙ (sym (found_at plan agreed (length plan.txns) t (omega arith)) ∙ s t o e)))

@@ -9,3 +9,4 @@ pub mod VotingLemmas
 pub mod CutLemmas
 pub mod ForceLemmas
 pub mod Bridges
+pub mod BurstLemmas

@@ -20,16 +20,13 @@ use Rattle.node_laws.proofs.Growing.{knows_still}
 use Rattle.node_laws.proofs.Order.{within_push}
 use Rattle.node_laws.proofs.Settle.{within_at}
 use Rattle.trace_laws.proofs.Plans.{length_closure, closure_at}
-use Rattle.trace_laws.proofs.Known.{closure_law, has_place}
+use Rattle.trace_laws.proofs.Entries.{has_place}
+use Rattle.trace_laws.proofs.Known.{closure_law}
+use Rattle.trace_laws.proofs.RunOutcomes.{run_outcomes_at}
 use Rattle.steal_pool.specs.Fitting.{AllFitAt}
-use Rattle.steal_pool.proofs.PlainLemmas.{length_run}
 use Rattle.peer_parts.specs.Found.{given_by, found_by, IsKept, IsSound, HasGiven, unknown}
 use Rattle.peer_parts.specs.Ready.{is_ready, NoneReady, left_upto, left_of, round_plan}
 use Rattle.peer_parts.proofs.FoundLemmas.{found_at, given_more, sound_given, within_of}
-
-pub some_is : (x : Option Outcome) → is_some x ≡ true → (o : Outcome) × (x ≡ Some o)
-some_is (Some o) h = (o, refl)
-some_is None h = absurd (false≢true h)
 
 pub none_is : (x : Option Outcome) → not (is_some x) ≡ true → x ≡ None
 none_is None h = refl
@@ -112,21 +109,11 @@ kept_round frame xs n closed = (closure_law (round_plan frame xs) n closed).kept
 pub closed_round : (frame : Plan) (xs : List (Option Outcome)) → length xs ≡ length frame.txns → IsKnownClosed frame.table.kind frame.txns xs → IsKnownClosed frame.table.kind frame.txns (closure (round_plan frame xs))
 closed_round frame xs n closed = (closure_law (round_plan frame xs) n closed).is_closed
 
-run_at : (plan : Plan) (n t : ℕ) → t < n → get_or (run_outcomes_upto plan n) t None ≡ run_outcome plan t
-run_at plan zero t h = absurd (omega arith)
-run_at plan (suc n) t h = ⊎_elim (λ e. inside e (run_at plan n t e)) (λ e. last e) (cases_lt t n)
-  where
-    inside : t < n → get_or (run_outcomes_upto plan n) t None ≡ run_outcome plan t → get_or (run_outcomes_upto plan n ++ run_outcome plan n ∷ []) t None ≡ run_outcome plan t
-    inside e more = get_or_append_left (run_outcomes_upto plan n) (run_outcome plan n ∷ []) None t (omega (arith, length_run plan n, e)) ∙ more
-
-    last : n ≤ t → get_or (run_outcomes_upto plan n ++ run_outcome plan n ∷ []) t None ≡ run_outcome plan t
-    last e = let k : n ≡ t = omega arith in get_or_push (run_outcomes_upto plan n) (run_outcome plan n) None t (length_run plan n ∙ k) ∙ ap (run_outcome plan) k
-
 -- what was known, with what ran, is the closure
 pub merged_is : (frame : Plan) (xs ran ys : List (Option Outcome)) → length xs ≡ length frame.txns → length ys ≡ length xs → IsKnownClosed frame.table.kind frame.txns xs → ran ≡ run_outcomes (round_plan frame xs)
     → ((t : ℕ) → get_or ys t None ≡ option_or (get_or xs t None) (get_or ran t None)) → ys ≡ closure (round_plan frame xs)
 merged_is frame xs ran ys n m closed r merged =
-    ext_get_or None ys (closure plan) (m ∙ (n ∙ sym (length_closure plan (length frame.txns)))) (λ t l. merged t ∙ (ap (λ (zs : List (Option Outcome)). option_or (get_or xs t None) (get_or zs t None)) r ∙ (ap (option_or (get_or xs t None)) (run_at plan (length frame.txns) t (omega (arith, l, n, m))) ∙ one t (get_or xs t None) refl)))
+    ext_get_or None ys (closure plan) (m ∙ (n ∙ sym (length_closure plan (length frame.txns)))) (λ t l. merged t ∙ (ap (λ (zs : List (Option Outcome)). option_or (get_or xs t None) (get_or zs t None)) r ∙ (ap (option_or (get_or xs t None)) (run_outcomes_at plan (length frame.txns) t (omega (arith, l, n, m))) ∙ one t (get_or xs t None) refl)))
   where
     plan : Plan
     plan = round_plan frame xs

@@ -1,4 +1,4 @@
--- A task's block is short, its transactions are lawful, and so is its plan.
+-- The plan of a task's round is lawful.
 use Rattle.std.specs.Prelude.{◌≡◌, ◌≤◌, List, length, Option, Some, None}
 use Rattle.std.specs.List.{All}
 use Rattle.std.proofs.Common.{sym, subst, arith}
@@ -14,25 +14,12 @@ use Rattle.txn_types.specs.declared.txn.Outcome.{Outcome}
 use Rattle.board_defs.specs.Closure.{IsKnownClosed, IsLawfulPlan}
 use Rattle.txn_core.specs.MeantTable.{table_of}
 use Rattle.txn_core.proofs.StateLemmas.{state_of-values}
+use Rattle.node_laws.proofs.LawfulBlockLemmas.{block_few, block_txns}
 use Rattle.steal_pool.specs.Fitting.{AllFitAt}
 use Rattle.peer_parts.specs.declared.rounds.Task.{Task}
 use Rattle.peer_parts.specs.Ready.{round_plan}
 use Rattle.peer_parts.specs.Tasks.{IsTask, frame_of}
 use Rattle.peer_parts.proofs.RoundLemmas.{lawful_round}
-
-pub block_few : (table : Table) (b : Block) → IsLawfulBlock table b → length b.txns ≤ 256
-block_few table b h = one b.config h
-  where
-    one : (c : Option Config) → IsLawfulBody table b.txns c → length b.txns ≤ 256
-    one None k = k.0.1
-    one (Some c) k = subst (λ (ts : List Txn). length ts ≤ 256) (sym k.0) (omega arith)
-
-pub block_txns : (table : Table) (b : Block) → IsLawfulBlock table b → All (IsLawfulTxn table) b.txns
-block_txns table b h = one b.config h
-  where
-    one : (c : Option Config) → IsLawfulBody table b.txns c → All (IsLawfulTxn table) b.txns
-    one None k = k.1
-    one (Some c) k = subst (λ (ts : List Txn). All (IsLawfulTxn table) ts) (sym k.0) (All-nil (IsLawfulTxn table))
 
 -- the plan of a round is lawful
 pub lawful_task : (k : Task) (known : List (Option Outcome)) → IsTask k → AreValues k.base.now → length known ≡ length k.block.now.txns → IsKnownClosed k.table.now.kind k.block.now.txns known → AllFitAt k.block.now.txns known → IsLawfulPlan (round_plan (frame_of k) known)

@@ -13,11 +13,12 @@ use Rattle.board_defs.specs.Trace.{Span, joined_rounds, IsLawfulTrace}
 use Rattle.trace_laws.proofs.Members.{Has, has_of, contains_of, has_cases, has_left, has_right, Up, of_up, up_push}
 use Rattle.trace_laws.proofs.Plain.{plain_law}
 use Rattle.trace_laws.proofs.Plans.{ran_has, has_ran, closure_at, more_law}
+use Rattle.trace_laws.proofs.Entries.{some_of}
 use Rattle.trace_laws.proofs.Known.{closure_law}
 use Rattle.peer_parts.specs.Found.{IsKept}
 use Rattle.peer_parts.specs.Holding.{has_just}
 use Rattle.peer_parts.specs.Ready.{round_plan, ran_between}
-use Rattle.peer_parts.proofs.RoundLemmas.{some_is, none_is, left_own}
+use Rattle.peer_parts.proofs.RoundLemmas.{none_is, left_own}
 
 -- POSITIONS
 
@@ -109,7 +110,7 @@ pub more_trace : (frame : Plan) (begun xs : List (Option Outcome)) (workers : �
     → IsLawfulTrace frame.table.kind frame.txns workers (ran_between frame.own begun (closure (round_plan frame xs)) (length frame.txns)) (joined_rounds (spans ∷ round ∷ []))
 more_trace frame begun xs workers spans round lawful kept so_far its =
     more_law plan workers before all spans round lawful
-    (λ t i. some_is (get_or xs t None) (just_parts frame.own begun xs t (between_has frame.own begun xs n t (has_of before t i)).1).1)
+    (λ t i. some_of (get_or xs t None) (just_parts frame.own begun xs t (between_has frame.own begun xs n t (has_of before t i)).1).1)
     so_far its (record {
       rising = of_up all (between_up frame.own begun after n);
       all_in = λ t i. contains_of all t (⊎_elim (λ h. old t h) (λ h. new t (subst (λ ts. Has t ts) (append-nil (ran_positions plan)) h)) (has_cases before (ran_positions plan ++ []) t (has_of (before ++ (ran_positions plan ++ [])) t i)));
@@ -138,7 +139,7 @@ more_trace frame begun xs workers spans round lawful kept so_far its =
     old t h =
         let b = between_has frame.own begun xs n t h in
         let p = just_parts frame.own begun xs t b.1 in
-        let o = some_is (get_or xs t None) p.1 in
+        let o = some_of (get_or xs t None) p.1 in
         has_between frame.own begun after n t b.0 (just_from frame.own begun after t o.0 p.0 (stays t o.0 o.1) p.2)
 
     -- what wasn't known didn't run before
@@ -175,7 +176,7 @@ more_trace frame begun xs workers spans round lawful kept so_far its =
     back t h =
         let b = between_has frame.own begun after n t h in
         let p = just_parts frame.own begun after t b.1 in
-        one b.0 p.0 (some_is (get_or after t None) p.1) p.2 (get_or xs t None) refl
+        one b.0 p.0 (some_of (get_or after t None) p.1) p.2 (get_or xs t None) refl
       where
         one : t < n → get_or frame.own t false ≡ true → (o : Outcome) × (get_or after t None ≡ Some o) → get_or begun t None ≡ None → (x : Option Outcome) → get_or xs t None ≡ x → Has t (before ++ (ran_positions plan ++ []))
         one l own o e (Some p) q = has_left before (ran_positions plan ++ []) t (has_between frame.own begun xs n t l (just_from frame.own begun xs t p own q e))

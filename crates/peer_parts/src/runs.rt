@@ -82,6 +82,7 @@ fn merge(known: &mut Known, ran: &Known)
 }
 
 /// Runs a plan of kind full with so many workers.
+#[tactic(auto, using(crate::proofs::BurstLemmas::closed_by))]
 fn run_plan<R: Threads + Sync, G: Gate>(
     rt: &R,
     alloc: Global,

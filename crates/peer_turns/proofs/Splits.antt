@@ -16,6 +16,7 @@ use Rattle.oxii_defs.specs.Lawful.{IsLawfulBody}
 use Rattle.known_defs.specs.Known.{no_txn}
 use Rattle.txn_core.proofs.StateLemmas.{fit_length}
 use Rattle.node_defs.specs.Ledger.{Halt, differs, first_halt, halt_at}
+use Rattle.node_laws.proofs.LawfulBlockLemmas.{body_txns}
 use Rattle.hash_ledger.specs.Halts.{IsLawfulSplit, IsWhole, halt_of}
 use Rattle.steal_pool.specs.Fitting.{AllFitAt}
 use Rattle.peer_parts.specs.Judging.{stand, stand_all}
@@ -55,13 +56,9 @@ lowest_halt table n t (x ∷ txns) (b ∷ own) (k ∷ known) (a ∷ agreed) h la
     one None i f more = more f
     one (Some g) i f more = one_halt table n t x b k a h (lawful 0 no_txn (omega arith)) (λ o s. fits 0 o s) (λ o s. agree 0 o s) (i ∙ f)
 
-txns_of : (table : Table) (txns : List Txn) (config : Option Config) → IsLawfulBody table txns config → All (IsLawfulTxn table) txns
-txns_of table txns None lawful = lawful.1
-txns_of table txns (Some config) lawful = subst (All (IsLawfulTxn table)) (sym lawful.0) (All-nil (IsLawfulTxn table))
-
 pub split_lawful : (table : Table) (n : ℕ) (txns : List Txn) (config : Option Config) (own : List Bool) (known agreed : List (Option Outcome)) (split : Option Split) → IsLawfulBody table txns config → AllFitAt txns known → AllFitAt txns agreed
     → option_map halt_of split ≡ first_halt n 0 txns (stand_all own known agreed) → IfSome split (IsLawfulSplit table)
 split_lawful table n txns config own known agreed None lawful fits agree e = tt
 split_lawful table n txns config own known agreed (Some s) lawful fits agree e =
-    let h = lowest_halt table n 0 txns own known agreed (halt_of s) (txns_of table txns config lawful) fits agree (sym e) in
+    let h = lowest_halt table n 0 txns own known agreed (halt_of s) (body_txns table txns config lawful) fits agree (sym e) in
     record { records = h.records; ran = h.ran; voted = h.voted }

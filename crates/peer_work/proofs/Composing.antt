@@ -3,7 +3,7 @@ use Rattle.std.specs.Prelude.{ℕ, ◌≡◌, ◌<◌, ◌≤◌, List, [], ◌�
 use Rattle.std.specs.List.{All}
 use Rattle.std.proofs.Common.{sym, ◌∙◌, ap, subst, arith, ⊎_elim}
 use Rattle.std.proofs.lemmas.Bool.{cases_lt}
-use Rattle.std.proofs.lemmas.Option.{none-some}
+use Rattle.std.proofs.lemmas.Option.{none-some, slice_get_past}
 use Rattle.std.proofs.lemmas.List.Elements.{All-get_or}
 use Rattle.txn_types.specs.declared.txn.Outcome.{Outcome}
 use Rattle.txn_types.specs.declared.txn.Txn.{Txn}
@@ -17,6 +17,7 @@ use Rattle.oxii_defs.specs.Chain.{IsLawfulBlock}
 use Rattle.known_defs.specs.Known.{txn_at, no_txn}
 use Rattle.node_defs.specs.Rules.{Rules, rules_of, in_force_behind}
 use Rattle.board_defs.specs.Closure.{Plan}
+use Rattle.node_laws.proofs.LawfulBlockLemmas.{block_txns}
 use Rattle.vote_book.specs.Ballots.{KeptVotes}
 use Rattle.vote_book.specs.Puts.{Cast, BookStandsFor, cast_on}
 use Rattle.peer_laws.specs.Turns.{found_upto, votes_found, VotesPut, Cut}
@@ -29,24 +30,12 @@ use Rattle.peer_parts.proofs.VotingLemmas.{votes_put}
 use Rattle.peer_work.specs.declared.opened.Opened.{Opened}
 use Rattle.peer_work.specs.Openings.{IsFound, IsFoundAs, WorkDone}
 
-past_end : {A : Type 0} (xs : List A) (i : ℕ) → length xs ≤ i → slice_get xs i ≡ None
-past_end [] i l = refl
-past_end (x ∷ xs) zero l = absurd (omega arith)
-past_end (x ∷ xs) (suc i) l = past_end xs i (omega arith)
-
 app_in : (table : Table) (t : Txn) → IsLawfulTxn table t → t.app < length table.apps
-app_in table t lawful = ⊎_elim (λ l. l) (λ past. absurd (none-some lawful.op (sym (ap (option_and_then (λ (a : App). slice_get a.ops t.op)) (past_end table.apps t.app past)) ∙ lawful.named))) (cases_lt t.app (length table.apps))
-
-all_lawful : (table : Table) (b : Block) → IsLawfulBlock table b → All (IsLawfulTxn table) b.txns
-all_lawful table b h = one b.config h
-  where
-    one : (c : Option Config) → IsLawfulBody table b.txns c → All (IsLawfulTxn table) b.txns
-    one None k = k.1
-    one (Some c) k = λ i d l. absurd (omega (arith, l, ap length k.0))
+app_in table t lawful = ⊎_elim (λ l. l) (λ past. absurd (none-some lawful.op (sym (ap (option_and_then (λ (a : App). slice_get a.ops t.op)) (slice_get_past table.apps t.app past)) ∙ lawful.named))) (cases_lt t.app (length table.apps))
 
 -- the applications of a lawful block exist
 pub apps_fit : (table : Table) (b : Block) (apps : ℕ) → IsLawfulBlock table b → apps ≡ length table.apps → AppsFit b.txns apps
-apps_fit table b apps h e t l = subst (λ n. (txn_at b.txns t).app < n) (sym e) (app_in table (txn_at b.txns t) (All-get_or (IsLawfulTxn table) b.txns t no_txn l (all_lawful table b h)))
+apps_fit table b apps h e t l = subst (λ n. (txn_at b.txns t).app < n) (sym e) (app_in table (txn_at b.txns t) (All-get_or (IsLawfulTxn table) b.txns t no_txn l (block_txns table b h)))
 
 -- the clauses of agreed_of and settle give what is found
 pub finds : (table : Table) (genesis : State) (behind : List Block) (me n : ℕ) (voters : List ℕ) (puts : List Cast) (plan : Plan) (old : Opened) (known agreed : List (Option Outcome))

@@ -15,20 +15,16 @@ use Rattle.txn_core.specs.Graphs.{Shape, IsGraphOf}
 use Rattle.hash_ledger.specs.declared.entry.Entry.{Entry}
 use Rattle.hash_ledger.specs.Ledgers.{tip_of}
 use Rattle.board_defs.specs.Closure.{IsKnownClosed}
+use Rattle.trace_laws.proofs.Entries.{all_same}
 use Rattle.steal_pool.specs.Fitting.{AllFitAt}
 use Rattle.peer_work.specs.declared.opened.Opened.{Opened}
 use Rattle.peer_work.specs.Openings.{IsWellOpened, IsFresh}
 
-none_at : (n t : ℕ) → get_or (replicate {A = Option Outcome} n None) t None ≡ None
-none_at zero t = refl
-none_at (suc n) zero = refl
-none_at (suc n) (suc t) = none_at n t
-
 none_fits : (txns : List Txn) (n : ℕ) → AllFitAt txns (replicate n None)
-none_fits txns n = λ t o h. absurd (none-some o (sym (none_at n t) ∙ h))
+none_fits txns n = λ t o h. absurd (none-some o (sym (all_same n t None) ∙ h))
 
 none_closed : (kind : Kind) (txns : List Txn) (n : ℕ) → IsKnownClosed kind txns (replicate n None)
-none_closed kind txns n = λ t o h. absurd (none-some o (sym (none_at n t) ∙ h))
+none_closed kind txns n = λ t o h. absurd (none-some o (sym (all_same n t None) ∙ h))
 
 -- a block that is ready, with nothing known of it, is the next one
 pub well_opened : (table : Table) (ledger : List Entry) (blocks : List Block) (o : Opened) (block : Block) (graph : Shape) (len n : ℕ) (tip : List ℕ) (kind : Kind)

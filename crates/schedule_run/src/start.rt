@@ -1,6 +1,6 @@
 //! The peers and the messages before the first event.
 
-ghost use Rattle.std.specs.Prelude.{◌≡◌, ◌≤◌, ◌<◌, ◌++◌, length, map, IfOk, OnOk};
+ghost use Rattle.std.specs.Prelude.{◌≡◌, ◌≤◌, ◌<◌, ◌++◌, [], length, map, IfOk, OnOk};
 ghost use Rattle.std.specs.List.{All};
 ghost use Rattle.oxii_defs.specs.Dependency.{graph_of};
 ghost use Rattle.oxii_defs.specs.BlockBytes.{block_hash};
@@ -9,8 +9,9 @@ ghost use Rattle.oxii_defs.specs.Lawful.{IsLawfulTable};
 ghost use Rattle.txn_core.specs.MeantTable.{table_of};
 ghost use Rattle.txn_core.specs.States.{state_of};
 ghost use Rattle.node_defs.specs.Same.{same_node};
-ghost use Rattle.node_defs.specs.World.{count_from};
-ghost use Rattle.world_laws.specs.Starts.{AreNewSlots, IsNewSlot, first_letter, first_letters, is_named, letters_of};
+ghost use Rattle.node_defs.specs.World.{count_from, first_pool, newblock_of, newblocks_of};
+ghost use Rattle.node_laws.specs.Named.{is_named};
+ghost use Rattle.world_laws.specs.Starts.{AreNewSlots, IsNewSlot, nodes_of};
 
 use crate::letter::Letter;
 use dep_graph::build;
@@ -94,7 +95,7 @@ fn newblock(
     orderer: u8,
 ) -> Result<Letter, OutOfMemory>
     requires { graph.now.preds ≡ graph_of table.now.kind block.now.txns }
-    ensures { IfOk result (λ r. r ≡ first_letter table.now block.now orderer) }
+    ensures { IfOk result (λ r. r ≡ newblock_of (nodes_of table.now []) block.now orderer) }
 {
     let preds = graph.lists(alloc)?;
     let block = block.copy(alloc)?;
@@ -114,7 +115,7 @@ fn send_block(
 ) -> Result<(), OutOfMemory>
     requires table { IsLawfulTable (table_of table.now) }
     requires block { length block.now.txns ≤ 256 }
-    ensures { OnOk result (pool.new ≡ pool.old ++ letters_of table.now faulty.now block.now (count_from 0 (length table.now.orderers))) }
+    ensures { OnOk result (pool.new ≡ pool.old ++ newblocks_of (nodes_of table.now faulty.now) block.now (count_from 0 (length table.now.orderers))) }
 {
     let graph = build(alloc, block, table.kind)?;
     let n = table.orderers.as_slice().len() as u8;
@@ -136,7 +137,7 @@ pub fn first_pool(
 ) -> Result<GrowingList<Letter>, OutOfMemory>
     requires table { IsLawfulTable (table_of table.now) }
     requires blocks { All (IsLawfulBlock (table_of table.now)) blocks.now }
-    ensures { IfOk result (λ r. r ≡ first_letters table.now faulty.now blocks.now) }
+    ensures { IfOk result (λ r. r ≡ first_pool (nodes_of table.now faulty.now) blocks.now) }
 {
     let mut pool = GrowingList::new(alloc);
     for block in blocks.as_slice() {

@@ -14,12 +14,12 @@ ghost use Rattle.txn_core.specs.States.{state_of};
 ghost use Rattle.node_defs.specs.Admission.{AreLawfulPieces};
 ghost use Rattle.node_defs.specs.World as world;
 ghost use Rattle.node_defs.specs.World.{IsWorld, Setting, log_of, start};
+ghost use Rattle.node_laws.specs.Named.{is_named};
 ghost use Rattle.node_laws.specs.OneWorld.{txns_carried_by};
 ghost use Rattle.peer_turns.specs.Peers.{IsLawfulMessage};
 ghost use Rattle.world_laws.specs.Deliveries.{AreBursts, AreDeliveries, Delivery};
 ghost use Rattle.world_laws.specs.Sayings.{config_named, txns_named};
 ghost use Rattle.world_laws.specs.Shown.{IsPeerFor};
-ghost use Rattle.world_laws.specs.Starts.{is_named};
 ghost use Rattle.world_laws.specs.Worlds.{CanTake, Follows, HasBursts, IsWorldOf, peer_in, setting_with, with_said};
 
 use crate::each::{give_all, give_one};

@@ -1,6 +1,6 @@
 -- Where an input is tame, its text is that of serial runs.
-use Rattle.std.specs.Prelude.{ℕ, ◌≡◌, ◌≤◌, ◌<◌, ◌++◌, Bool, false, not, List, filter, length, take}
-use Rattle.std.specs.List.{All, flat_map, list_any}
+use Rattle.std.specs.Prelude.{ℕ, ◌≡◌, ◌≤◌, ◌<◌, ◌++◌, false, not, List, filter, length, take}
+use Rattle.std.specs.List.{All, flat_map}
 use Rattle.txn_types.specs.declared.block.Body.{Body}
 use Rattle.txn_types.specs.declared.stream.CutLimits.{CutLimits}
 use Rattle.txn_types.specs.declared.stream.Item.{Item}
@@ -13,31 +13,27 @@ use Rattle.oxii_defs.specs.Chain.{chain}
 use Rattle.oxii_defs.specs.Lines.{blocks_line, tail_lines}
 use Rattle.oxii_defs.specs.SerialRuns.{IsSerialPart}
 use Rattle.node_defs.specs.Cutting.{AreAgreed, rejected_from}
-use Rattle.node_defs.specs.Same.{same_node}
 use Rattle.node_defs.specs.Tame.{IsTame}
 use Rattle.node_defs.specs.Text.{rejected_line, IsTextOf}
 use Rattle.node_defs.specs.World.{World, setting_of, IsWorld, IsSaidByFaulty, count_from}
 use Rattle.node_laws.specs.Agreement.{completed_count}
+use Rattle.node_laws.specs.Named.{is_named}
 
 -- few enough nodes are faulty, at each block that orderers agree on
 abbrev pub IsTameInput : Table → State → List Item → CutLimits → List Node → Type 0
 IsTameInput table genesis items limits faulty = (bodies : List Body) → AreAgreed table limits items bodies → IsTame (setting_of table genesis items bodies faulty)
 
--- a peer is named faulty
-abbrev pub is_named : List Node → ℕ → Bool
-is_named faulty p = list_any (same_node (Peer p)) faulty
-
 -- the peers of a table that aren't named faulty, in table order
 abbrev pub honest_peers : Table → List Node → List ℕ
-honest_peers table faulty = filter (λ p. not (is_named faulty p)) (count_from 0 (length table.peers))
+honest_peers table faulty = filter (λ p. not (is_named faulty (Peer p))) (count_from 0 (length table.peers))
 
 -- the part of each peer that isn't named faulty is that of the serial run of so many first blocks of the chain, whatever the schedule
 pub record IsSerialText (table : Table) (genesis : State) (items : List Item) (limits : CutLimits) (faulty : List Node) (completed : ℕ → ℕ) (lines : List ℕ) : Type 0 where
   pub bodies : List Body
   pub agreed : AreAgreed table limits items bodies
-  pub few : (p : ℕ) → p < length table.peers → is_named faulty p ≡ false → completed p ≤ length (chain table bodies)
+  pub few : (p : ℕ) → p < length table.peers → is_named faulty (Peer p) ≡ false → completed p ≤ length (chain table bodies)
   pub part : ℕ → List ℕ
-  pub serial : (p : ℕ) → p < length table.peers → is_named faulty p ≡ false → IsSerialPart table genesis p (take (completed p) (chain table bodies)) (part p)
+  pub serial : (p : ℕ) → p < length table.peers → is_named faulty (Peer p) ≡ false → IsSerialPart table genesis p (take (completed p) (chain table bodies)) (part p)
   pub messages : ℕ
   pub idle : ℕ
   pub are : lines ≡ flat_map rejected_line (rejected_from table 0 items) ++ blocks_line (length (chain table bodies)) ++ flat_map part (honest_peers table faulty) ++ tail_lines messages idle

@@ -10,38 +10,38 @@ use Rattle.txn_types.specs.declared.message.Node.TheVariants.{Orderer}
 use Rattle.oxii_defs.specs.State.{State}
 use Rattle.txn_core.specs.declared.table.Table.{Table}
 use Rattle.node_defs.specs.Log.{Letter}
-use Rattle.node_defs.specs.World.{count_from}
+use Rattle.node_defs.specs.World.{Setting, count_from, is_faulty, newblock_of, newblocks_of}
 use Rattle.peer_turns.specs.Peers.{KeptPeer}
-use Rattle.world_laws.specs.Starts.{AreNewSlots, IsNewSlot, first_letter, is_named, letters_of}
+use Rattle.world_laws.specs.Starts.{AreNewSlots, IsNewSlot}
 
 -- NEWBLOCKS
 
 -- the NEWBLOCKs of the orderers from o on are still to come
-pub record Sending (table : Table) (faulty : List Node) (b : Block) (n : ℕ) (old : List Letter) (o : ℕ) (pool : List Letter) : Type 0 where
-  pub left : (k : ℕ) → k + o ≡ n → pool ++ letters_of table faulty b (count_from o k) ≡ old ++ letters_of table faulty b (count_from 0 n)
+pub record Sending (s : Setting) (b : Block) (n : ℕ) (old : List Letter) (o : ℕ) (pool : List Letter) : Type 0 where
+  pub left : (k : ℕ) → k + o ≡ n → pool ++ newblocks_of s b (count_from o k) ≡ old ++ newblocks_of s b (count_from 0 n)
 
-pub sending_none : (table : Table) (faulty : List Node) (b : Block) (n : ℕ) (pool : List Letter) → Sending table faulty b n pool 0 pool
-sending_none table faulty b n pool = record { left = λ k e. let f : k ≡ n = omega (arith, e) in ap (λ m. pool ++ letters_of table faulty b (count_from 0 m)) f }
+pub sending_none : (s : Setting) (b : Block) (n : ℕ) (pool : List Letter) → Sending s b n pool 0 pool
+sending_none s b n pool = record { left = λ k e. let f : k ≡ n = omega (arith, e) in ap (λ m. pool ++ newblocks_of s b (count_from 0 m)) f }
 
-pub sending_past : (table : Table) (faulty : List Node) (b : Block) (n : ℕ) (old : List Letter) (o : ℕ) (pool : List Letter) →
-    is_named faulty (Orderer o) ≡ true → Sending table faulty b n old o pool → Sending table faulty b n old (suc o) pool
-sending_past table faulty b n old o pool named v = record {
+pub sending_past : (s : Setting) (b : Block) (n : ℕ) (old : List Letter) (o : ℕ) (pool : List Letter) →
+    is_faulty s (Orderer o) ≡ true → Sending s b n old o pool → Sending s b n old (suc o) pool
+sending_past s b n old o pool named v = record {
   left = λ k e. let f : suc k + o ≡ n = omega (arith, e) in
-      ap (λ c. pool ++ cond c (letters_of table faulty b (count_from (suc o) k)) (first_letter table b o ∷ letters_of table faulty b (count_from (suc o) k))) (sym named) ∙ v.left (suc k) f;
+      ap (λ c. pool ++ cond c (newblocks_of s b (count_from (suc o) k)) (newblock_of s b o ∷ newblocks_of s b (count_from (suc o) k))) (sym named) ∙ v.left (suc k) f;
 }
 
-pub sending_more : (table : Table) (faulty : List Node) (b : Block) (n : ℕ) (old : List Letter) (o : ℕ) (pool pool2 : List Letter) →
-    is_named faulty (Orderer o) ≡ false → pool2 ≡ pool ++ first_letter table b o ∷ [] → Sending table faulty b n old o pool → Sending table faulty b n old (suc o) pool2
-sending_more table faulty b n old o pool pool2 named more v = record {
+pub sending_more : (s : Setting) (b : Block) (n : ℕ) (old : List Letter) (o : ℕ) (pool pool2 : List Letter) →
+    is_faulty s (Orderer o) ≡ false → pool2 ≡ pool ++ newblock_of s b o ∷ [] → Sending s b n old o pool → Sending s b n old (suc o) pool2
+sending_more s b n old o pool pool2 named more v = record {
   left = λ k e. let f : suc k + o ≡ n = omega (arith, e) in
-      let rest = letters_of table faulty b (count_from (suc o) k) in
-      ap (λ xs. xs ++ rest) more ∙ (append_assoc pool (first_letter table b o ∷ []) rest
-      ∙ (ap (λ c. pool ++ cond c rest (first_letter table b o ∷ rest)) (sym named) ∙ v.left (suc k) f));
+      let rest = newblocks_of s b (count_from (suc o) k) in
+      ap (λ xs. xs ++ rest) more ∙ (append_assoc pool (newblock_of s b o ∷ []) rest
+      ∙ (ap (λ c. pool ++ cond c rest (newblock_of s b o ∷ rest)) (sym named) ∙ v.left (suc k) f));
 }
 
-pub sending_all : (table : Table) (faulty : List Node) (b : Block) (n : ℕ) (old : List Letter) (o : ℕ) (pool : List Letter) → o ≡ n → Sending table faulty b n old o pool →
-    pool ≡ old ++ letters_of table faulty b (count_from 0 n)
-sending_all table faulty b n old o pool e v = let f : 0 + o ≡ n = omega (arith, e) in sym (append-nil pool) ∙ v.left 0 f
+pub sending_all : (s : Setting) (b : Block) (n : ℕ) (old : List Letter) (o : ℕ) (pool : List Letter) → o ≡ n → Sending s b n old o pool →
+    pool ≡ old ++ newblocks_of s b (count_from 0 n)
+sending_all s b n old o pool e v = let f : 0 + o ≡ n = omega (arith, e) in sym (append-nil pool) ∙ v.left 0 f
 
 -- SLOTS
 

@@ -5,7 +5,7 @@ use Rattle.peer_parts.specs.Tasks.{frame_of, IsTraceOf}
 use Rattle.peer_parts.specs.Ready.{ran_between}
 use Rattle.peer_parts.proofs.FoundLemmas.{all_found}
 use Rattle.peer_parts.proofs.JoinLemmas.{short_of}
-use Rattle.peer_parts.proofs.TaskLemmas.{block_few}
+use Rattle.node_laws.proofs.LawfulBlockLemmas.{block_few}
 use Rattle.peer_parts.proofs.TraceLemmas.{no_trace, between_few}
 use Rattle.peer_parts.proofs.rounds.settle.Goals as goal
 

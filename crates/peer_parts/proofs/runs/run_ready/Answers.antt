@@ -3,12 +3,13 @@ use Rattle.board_defs.specs.Closure.{closure, ran_positions, IsClosed, IsKnownCl
 use Rattle.board_defs.specs.Trace.{IsLawfulTrace}
 use Rattle.board_work.specs.Plans.{span_of}
 use Rattle.txn_core.specs.MeantTable.{table_of}
-use Rattle.steal_pool.proofs.PlainLemmas.{length_run}
+use Rattle.trace_laws.proofs.RunOutcomes.{length_run_outcomes}
 use Rattle.peer_parts.specs.Found.{IsSound}
 use Rattle.peer_parts.specs.Ready.{round_plan, ran_between}
 use Rattle.peer_parts.specs.Tasks.{frame_of, with_own}
 use Rattle.peer_parts.proofs.JoinLemmas.{short_of}
-use Rattle.peer_parts.proofs.TaskLemmas.{block_few, lawful_task}
+use Rattle.node_laws.proofs.LawfulBlockLemmas.{block_few}
+use Rattle.peer_parts.proofs.TaskLemmas.{lawful_task}
 use Rattle.peer_parts.proofs.RoundLemmas.{merged_is, sound_round, closed_round, ready_fewer}
 use Rattle.peer_parts.proofs.TraceLemmas.{ran_few, more_trace}
 use Rattle.peer_parts.proofs.runs.run_ready.Goals as goal
@@ -30,14 +31,14 @@ merge-requires-clause-long g c =
     let k = c.args.task.now in
     let plan = round_plan (frame_of k) c.args.known.now in
     let closed = subst (λ (own : List Bool). IsClosed (with_own k c.args.known.now own) c.args.workers c.in_ok-outcomes.field-0.outcomes (map span_of c.in_ok-outcomes.field-0.trace)) c.in_ok-own.ensures c.in_ok-outcomes.ensures.closed in
-    ap length closed.outcomes_are ∙ (length_run plan (length k.block.now.txns) ∙ sym c.requires.long)
+    ap length closed.outcomes_are ∙ (length_run_outcomes plan (length k.block.now.txns) ∙ sym c.requires.long)
 
 pub merge-requires-clause-few : goal.merge-requires-clause-few
 merge-requires-clause-few g c =
     let k = c.args.task.now in
     let plan = round_plan (frame_of k) c.args.known.now in
     let closed = subst (λ (own : List Bool). IsClosed (with_own k c.args.known.now own) c.args.workers c.in_ok-outcomes.field-0.outcomes (map span_of c.in_ok-outcomes.field-0.trace)) c.in_ok-own.ensures c.in_ok-outcomes.ensures.closed in
-    let long : length c.in_ok-outcomes.field-0.outcomes ≡ length k.block.now.txns = ap length closed.outcomes_are ∙ length_run plan (length k.block.now.txns) in
+    let long : length c.in_ok-outcomes.field-0.outcomes ≡ length k.block.now.txns = ap length closed.outcomes_are ∙ length_run_outcomes plan (length k.block.now.txns) in
     omega (arith, long, block_few (table_of k.table.now) k.block.now c.requires.task.block)
 
 pub join-requires-clause-round : goal.join-requires-clause-round

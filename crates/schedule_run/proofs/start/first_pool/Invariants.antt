@@ -1,9 +1,10 @@
 use Rattle.std.proofs.Common.{◌≡◌, ◌++◌, drop}
-use Rattle.world_laws.specs.Starts.{first_letters}
+use Rattle.node_defs.specs.World.{first_pool}
+use Rattle.world_laws.specs.Starts.{nodes_of}
 use Rattle.schedule_run.proofs.start.first_pool.Given as goal
 
 abbrev pub invariant-loop-block : goal.invariant-loop-block
 invariant-loop-block l = record {
-  left : l.pool ++ first_letters l.table l.faulty (drop l.block-index l.block-items) ≡ first_letters l.table l.faulty l.blocks;
+  left : l.pool ++ first_pool (nodes_of l.table l.faulty) (drop l.block-index l.block-items) ≡ first_pool (nodes_of l.table l.faulty) l.blocks;
   same : l.block-items ≡ l.blocks;
 }
