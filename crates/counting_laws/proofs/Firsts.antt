@@ -1,11 +1,10 @@
 -- The first of each sender.
-use Rattle.std.specs.Prelude.{ℕ, ◌==◌, Bool, true, false, ◌||◌, ◌&&◌, cond, List, [], ◌∷◌, map, filter, Some, None, ◌≡◌, refl}
+use Rattle.std.specs.Prelude.{ℕ, ◌==◌, Bool, true, false, ◌||◌, cond, List, [], ◌∷◌, ◌++◌, map, reverse, Some, None, ◌≡◌, refl}
 use Rattle.std.specs.List.{list_any, cons_option}
 use Rattle.std.proofs.Common.{sym, ◌∙◌, ap}
-use Rattle.std.proofs.lemmas.Bool.{eqb-true, cond-true, cond-false}
+use Rattle.std.proofs.lemmas.Bool.{eqb-true}
 use Rattle.node_defs.specs.Counting.{first_of_each}
-use Rattle.counting_laws.specs.Contents.{contents}
-use Rattle.counting_laws.proofs.Reaching.{contents-yes, contents-no}
+use Rattle.counting_laws.proofs.Reversed.{list_any-reverse, reverse-push}
 
 -- a sender stands among the first of each exactly where it stands in the list
 pub senders_stay : {A : Type 0} (s : ℕ) (xs : List (ℕ × A)) → list_any (λ y. y.0 == s) (first_of_each xs) ≡ list_any (λ y. y.0 == s) xs
@@ -20,40 +19,26 @@ senders_stay {A} s (x ∷ xs) = one (list_any (λ y. y.0 == x.0) xs) refl (sende
     one true h stays = stays ∙ known (x.0 == s) refl h
     one false h stays = ap (λ b. (x.0 == s) || b) stays
 
-and_yes : (b : Bool) → (b && true) ≡ b
-and_yes true = refl
-and_yes false = refl
+list_any-map : {E A : Type 0} (f : E → A) (p : A → Bool) (es : List E) → list_any p (map f es) ≡ list_any (λ e. p (f e)) es
+list_any-map f p [] = refl
+list_any-map f p (e ∷ es) = ap (λ b. p (f e) || b) (list_any-map f p es)
 
-and_no : (b : Bool) → (b && false) ≡ false
-and_no true = refl
-and_no false = refl
+-- a sender is told from kept entries, which are the first of each sender, in the order in which they came
+pub senders_kept : {E A : Type 0} (pair : E → ℕ × A) (s : ℕ) (es : List E) (xs : List (ℕ × A)) → map pair (reverse es) ≡ first_of_each xs → list_any (λ e. (pair e).0 == s) es ≡ list_any (λ x. x.0 == s) xs
+senders_kept {E} {A} pair s es xs k =
+    sym (list_any-reverse (λ e. (pair e).0 == s) es)
+    ∙ (sym (list_any-map pair (λ (x : ℕ × A). x.0 == s) (reverse es))
+    ∙ (ap (list_any (λ (x : ℕ × A). x.0 == s)) k ∙ senders_stay s xs))
 
--- a sender stands among the contents where an entry that counts is of this sender
-pub list_any-contents : {E A : Type 0} (pair : E → ℕ × A) (here : E → Bool) (s : ℕ) (es : List E) → list_any (λ y. y.0 == s) (contents pair here es) ≡ list_any (λ e. ((pair e).0 == s) && here e) es
-list_any-contents pair here s [] = refl
-list_any-contents {E} {A} pair here s (e ∷ es) = one (here e) (list_any-contents pair here s es)
+-- they stay so with one entry more, which is kept behind them unless its sender has one
+pub firsts_more : {E A : Type 0} (pair : E → ℕ × A) (e : E) (es : List E) (xs : List (ℕ × A)) → map pair (reverse es) ≡ first_of_each xs →
+    map pair (reverse (cond (list_any (λ x. (pair x).0 == (pair e).0) es) es (es ++ e ∷ []))) ≡ first_of_each (pair e ∷ xs)
+firsts_more {E} {A} pair e es xs k =
+    ap (λ b. map pair (reverse (cond b es (es ++ e ∷ [])))) (senders_kept pair (pair e).0 es xs k) ∙ one (list_any (λ (x : ℕ × A). x.0 == (pair e).0) xs)
   where
-    one : (b : Bool) → list_any (λ y. y.0 == s) (contents pair here es) ≡ list_any (λ x. ((pair x).0 == s) && here x) es → list_any (λ (y : ℕ × A). y.0 == s) (map pair (cond b (e ∷ filter here es) (filter here es))) ≡ ((((pair e).0 == s) && b) || list_any (λ x. ((pair x).0 == s) && here x) es)
-    one true h = ap (λ a. ((pair e).0 == s) || a) h ∙ ap (λ a. a || list_any (λ x. ((pair x).0 == s) && here x) es) (sym (and_yes ((pair e).0 == s)))
-    one false h = h ∙ ap (λ a. a || list_any (λ x. ((pair x).0 == s) && here x) es) (sym (and_no ((pair e).0 == s)))
-
--- entries whose contents are the first of each sender stay so with one more, which is kept unless its sender has an entry here
-pub firsts_more : {E A : Type 0} (pair : E → ℕ × A) (here : E → Bool) (e : E) (es : List E) (xs : List (ℕ × A)) (b : Bool) →
-    contents pair here es ≡ first_of_each xs →
-    (here e ≡ true → list_any (λ x. ((pair x).0 == (pair e).0) && here x) es ≡ b) →
-    contents pair here (cond b es (e ∷ es)) ≡ first_of_each (cond (here e) (pair e ∷ xs) xs)
-firsts_more {E} {A} pair here e es xs b k same = one (here e) b refl same
-  where
-    known : (b : Bool) → list_any (λ x. ((pair x).0 == (pair e).0) && here x) es ≡ b → list_any (λ (y : ℕ × A). y.0 == (pair e).0) xs ≡ b
-    known b h = sym (senders_stay (pair e).0 xs) ∙ (ap (list_any (λ (y : ℕ × A). y.0 == (pair e).0)) (sym k) ∙ (list_any-contents pair here (pair e).0 es ∙ h))
-
-    one : (h b : Bool) → here e ≡ h → (here e ≡ true → list_any (λ x. ((pair x).0 == (pair e).0) && here x) es ≡ b) → contents pair here (cond b es (e ∷ es)) ≡ first_of_each (cond h (pair e ∷ xs) xs)
-    one true true is of = k ∙ sym (cond-true (list_any (λ (y : ℕ × A). y.0 == (pair e).0) xs) (first_of_each xs) (pair e ∷ first_of_each xs) (known true (of is)))
-    one true false is of =
-        contents-yes pair here e es is
-        ∙ (ap (λ zs. pair e ∷ zs) k ∙ sym (cond-false (list_any (λ (y : ℕ × A). y.0 == (pair e).0) xs) (first_of_each xs) (pair e ∷ first_of_each xs) (known false (of is))))
-    one false true is of = k
-    one false false is of = contents-no pair here e es is ∙ k
+    one : (b : Bool) → map pair (reverse (cond b es (es ++ e ∷ []))) ≡ cond b (first_of_each xs) (pair e ∷ first_of_each xs)
+    one true = k
+    one false = ap (map pair) (reverse-push es e) ∙ ap (λ ys. pair e ∷ ys) k
 
 -- one more entry in front, where a test holds
 pub cons_option-if : {A : Type 0} (b : Bool) (v : A) (xs : List A) → cons_option (cond b (Some v) None) xs ≡ cond b (v ∷ xs) xs

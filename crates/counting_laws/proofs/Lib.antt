@@ -1,4 +1,3 @@
 pub mod Reversed
-pub mod Kept
 pub mod Firsts
 pub mod Reaching

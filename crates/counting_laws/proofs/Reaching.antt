@@ -25,11 +25,11 @@ contents-append {A} {B} f p (x ∷ xs) ys = one (p x) (contents-append f p xs ys
     one false h = h
 
 -- an entry that counts
-pub contents-yes : {A B : Type 0} (f : A → B) (p : A → Bool) (x : A) (xs : List A) → p x ≡ true → contents f p (x ∷ xs) ≡ f x ∷ contents f p xs
+contents-yes : {A B : Type 0} (f : A → B) (p : A → Bool) (x : A) (xs : List A) → p x ≡ true → contents f p (x ∷ xs) ≡ f x ∷ contents f p xs
 contents-yes f p x xs h = ap (map f) (cond-true (p x) (x ∷ filter p xs) (filter p xs) h)
 
 -- an entry that doesn't
-pub contents-no : {A B : Type 0} (f : A → B) (p : A → Bool) (x : A) (xs : List A) → p x ≡ false → contents f p (x ∷ xs) ≡ contents f p xs
+contents-no : {A B : Type 0} (f : A → B) (p : A → Bool) (x : A) (xs : List A) → p x ≡ false → contents f p (x ∷ xs) ≡ contents f p xs
 contents-no f p x xs h = ap (map f) (cond-false (p x) (x ∷ filter p xs) (filter p xs) h)
 
 -- where nothing was reached, one more that counts is looked at
@@ -65,6 +65,15 @@ reached_here f p same q xs i x l e none h full =
     ap (λ ys. first_to_reach same q (contents f p ys)) (reverse-front xs (i + 1))
     ∙ (ap (first_to_reach same q) (contents-append f p (reverse (drop (i + 1) xs)) (reverse (take (i + 1) xs)))
     ∙ reached_stays same q (contents f p (reverse (take (i + 1) xs))) (contents f p (reverse (drop (i + 1) xs))) (f x) now)
+
+-- a test of all contents
+pub filter-map : {A B : Type 0} (f : A → B) (g : B → Bool) (xs : List A) → filter g (map f xs) ≡ contents f (λ x. g (f x)) xs
+filter-map f g [] = refl
+filter-map {A} {B} f g (x ∷ xs) = one (g (f x)) (filter-map f g xs)
+  where
+    one : (b : Bool) → filter g (map f xs) ≡ contents f (λ y. g (f y)) xs → cond b (f x ∷ filter g (map f xs)) (filter g (map f xs)) ≡ map f (cond b (x ∷ filter (λ y. g (f y)) xs) (filter (λ y. g (f y)) xs))
+    one true h = ap (λ zs. f x ∷ zs) h
+    one false h = h
 
 -- two tests, one behind the other
 pub filter-contents : {A B : Type 0} (f : A → B) (p : A → Bool) (g : B → Bool) (xs : List A) → filter g (contents f p xs) ≡ contents f (λ x. p x && g (f x)) xs

@@ -1,4 +1,5 @@
 mod GraphLists
 mod NewblockLemmas
+mod Counting
 mod Contents
 mod Held

@@ -1,8 +1,8 @@
 -- An inbox that stands for a log stands for it with one more NEWBLOCK.
-use Rattle.std.specs.Prelude.{ℕ, ◌==◌, ◌≡◌, Bool, true, false, ◌&&◌, cond, if◌then◌else◌, ◌∷◌, length, Some, None, nat_lt, filter_map, refl}
+use Rattle.std.specs.Prelude.{ℕ, ◌==◌, ◌≡◌, Bool, true, false, ◌&&◌, cond, if◌then◌else◌, ◌∷◌, length, map, reverse, Some, None, nat_lt, filter_map, refl}
 use Rattle.std.specs.List.{list_any, cons_option}
 use Rattle.std.proofs.Common.{sym, ◌∙◌, ap}
-use Rattle.std.proofs.lemmas.Bool.{cond-true, cond-false, eqb-true}
+use Rattle.std.proofs.lemmas.Bool.{cond-true, cond-false}
 use Rattle.std.proofs.lemmas.Option.{none-some, cond_some}
 use Rattle.txn_types.specs.declared.block.Block.{Block}
 use Rattle.txn_types.specs.declared.message.Node.{Node}
@@ -15,10 +15,10 @@ use Rattle.node_defs.specs.Counting.{first_of_each}
 use Rattle.node_defs.specs.Rules.{Rules}
 use Rattle.node_defs.specs.Log.{Log, newblock_from, newblock_in, first_newblocks}
 use Rattle.txn_core.specs.Graphs.{Shape}
-use Rattle.counting_laws.proofs.Firsts.{firsts_more, list_any-contents, cons_option-if}
+use Rattle.counting_laws.proofs.Firsts.{firsts_more, senders_kept, senders_stay, cons_option-if}
 use Rattle.newblock_quorum.specs.declared.entry.Received.{Received}
 use Rattle.newblock_quorum.specs.declared.entry.NewBlockPut.TheVariants.{WrongGraph, Repeat, Counted}
-use Rattle.newblock_quorum.specs.Entries.{KeptNewBlocks, is_numbered, has_sent, answer_in_inbox, inbox_with}
+use Rattle.newblock_quorum.specs.Entries.{KeptNewBlocks, IsBehindNewBlock, answer_in_inbox, has_sent, received_for, with_received}
 use Rattle.newblock_quorum.specs.Newblocks.{InboxStandsFor, letter_of, orderer_of, answer_to_newblock, CommitsLeaveIt}
 use Rattle.newblock_quorum.proofs.GraphLists.{same_lists}
 
@@ -40,11 +40,13 @@ from_orderer rules (Orderer p) o n m is good e =
     ∙ ap (λ q. cond ((m.block.number == n) && good) (Some (q, m.block)) None) who.1)
 
 -- an orderer has sent for a number where the log has its good NEWBLOCK
-sent_is : (inbox : KeptNewBlocks) (rules : Rules) (L : Log) (o n : ℕ) → InboxStandsFor inbox rules L → has_sent inbox.entries o n ≡ list_any (λ x. x.0 == o) (first_newblocks rules n L)
-sent_is inbox rules L o n s = sym (list_any-contents pair_of (is_numbered n) o inbox.entries) ∙ ap (list_any (λ (x : ℕ × Block). x.0 == o)) (s.counted n)
+sent_is : (inbox : KeptNewBlocks) (rules : Rules) (L : Log) (o n : ℕ) → InboxStandsFor inbox rules L → has_sent o (received_for n inbox.entries) ≡ list_any (λ x. x.0 == o) (first_newblocks rules n L)
+sent_is inbox rules L o n s =
+    let sent = filter_map (newblock_in rules n) L in
+    senders_kept pair_of o (received_for n inbox.entries) sent (s.counted n) ∙ sym (senders_stay o sent)
 
 -- the answer to a good NEWBLOCK is the one that the log tells
-pub counted_is : (inbox : KeptNewBlocks) (rules : Rules) (L : Log) (from : Node) (o : ℕ) (m : NewBlock) → InboxStandsFor inbox rules L → orderer_of inbox.orderers from ≡ Some o → same_lists m.preds (graph_of inbox.kind m.block.txns) ≡ true → answer_in_inbox o m.block.number inbox.entries ≡ answer_to_newblock rules L (orderer_of (length rules.table.orderers) from) m
+pub counted_is : (inbox : KeptNewBlocks) (rules : Rules) (L : Log) (from : Node) (o : ℕ) (m : NewBlock) → InboxStandsFor inbox rules L → orderer_of inbox.orderers from ≡ Some o → same_lists m.preds (graph_of inbox.kind m.block.txns) ≡ true → answer_in_inbox o (received_for m.block.number inbox.entries) ≡ answer_to_newblock rules L (orderer_of (length rules.table.orderers) from) m
 counted_is inbox rules L from o m s is good =
     let some = ap (λ k. orderer_of k from) (sym s.orderers_are) ∙ is in
     let right = ap (λ k. same_lists m.preds (graph_of k m.block.txns)) (sym s.kind_is) ∙ good in
@@ -73,31 +75,32 @@ stands_wrong inbox rules L from o m s is bad =
           s.counted n ∙ sym (ap (λ w. first_of_each (cons_option w xs)) (from_orderer rules from o n m some false wrong ∙ none));
     }
 
-abbrev received_of : ℕ → Block → Shape → Received
-received_of o block graph = record { orderer = o; block = block; graph = graph }
-
 yes_is : (b : Bool) → (b && true) ≡ b
 yes_is true = refl
 yes_is false = refl
 
 -- a good NEWBLOCK counts, unless its orderer has sent for this number
-pub stands_good : (inbox : KeptNewBlocks) (rules : Rules) (L : Log) (from : Node) (o : ℕ) (m : NewBlock) (graph : Shape) → InboxStandsFor inbox rules L → orderer_of inbox.orderers from ≡ Some o → same_lists m.preds (graph_of inbox.kind m.block.txns) ≡ true → InboxStandsFor (inbox_with inbox o m.block graph) rules (letter_of from m ∷ L)
-stands_good inbox rules L from o m graph s is good =
-    let some = ap (λ k. orderer_of k from) (sym s.orderers_are) ∙ is in
-    let right = ap (λ k. same_lists m.preds (graph_of k m.block.txns)) (sym s.kind_is) ∙ good in
-    let e = received_of o m.block graph in
-    let b = has_sent inbox.entries o m.block.number in
-    record {
-      orderers_are = s.orderers_are;
-      quorum_is = s.quorum_is;
-      kind_is = s.kind_is;
-      counted = λ n.
-          let xs = filter_map (newblock_in rules n) L in
-          let here = m.block.number == n in
-          let more = from_orderer rules from o n m some true right ∙ ap (λ h. cond h (Some (o, m.block)) None) (yes_is here) in
-          firsts_more pair_of (is_numbered n) e inbox.entries xs b (s.counted n) (λ h. ap (has_sent inbox.entries o) (sym (eqb-true m.block.number n h)))
-          ∙ sym (ap first_of_each (ap (λ w. cons_option w xs) more ∙ cons_option-if here (o, m.block) xs));
-    }
+pub stands_good : (inbox new : KeptNewBlocks) (rules : Rules) (L : Log) (from : Node) (o : ℕ) (m : NewBlock) (graph : Shape) → InboxStandsFor inbox rules L → orderer_of inbox.orderers from ≡ Some o → same_lists m.preds (graph_of inbox.kind m.block.txns) ≡ true → IsBehindNewBlock inbox o m.block graph new → InboxStandsFor new rules (letter_of from m ∷ L)
+stands_good inbox new rules L from o m graph s is good kept = record {
+  orderers_are = kept.keeps.orderers ∙ s.orderers_are;
+  quorum_is = kept.keeps.quorum ∙ s.quorum_is;
+  kind_is = kept.keeps.kind ∙ s.kind_is;
+  counted = λ n.
+      let xs = filter_map (newblock_in rules n) L in
+      let here = m.block.number == n in
+      let some = ap (λ k. orderer_of k from) (sym s.orderers_are) ∙ is in
+      let right = ap (λ k. same_lists m.preds (graph_of k m.block.txns)) (sym s.kind_is) ∙ good in
+      let more = from_orderer rules from o n m some true right ∙ ap (λ h. cond h (Some (o, m.block)) None) (yes_is here) in
+      ap (λ es. map pair_of (reverse es)) (kept.entries n)
+      ∙ (at n here ∙ sym (ap first_of_each (ap (λ w. cons_option w xs) more ∙ cons_option-if here (o, m.block) xs)));
+}
+  where
+    e : Received
+    e = record { orderer = o; block = m.block; graph = graph }
+
+    at : (n : ℕ) (b : Bool) → map pair_of (reverse (cond b (with_received e (received_for n inbox.entries)) (received_for n inbox.entries))) ≡ first_of_each (cond b ((o, m.block) ∷ filter_map (newblock_in rules n) L) (filter_map (newblock_in rules n) L))
+    at n true = firsts_more pair_of e (received_for n inbox.entries) (filter_map (newblock_in rules n) L) (s.counted n)
+    at n false = s.counted n
 
 commit_adds : (rules : Rules) (n : ℕ) (from : Node) (c : Commit) → newblock_from rules n from (message.Commit c) ≡ None
 commit_adds rules n (Peer p) c = refl

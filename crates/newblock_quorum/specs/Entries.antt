@@ -1,6 +1,7 @@
--- What an inbox keeps: how many orderers there are, the quorum, the kind of graphs, and the counted NEWBLOCKs, the latest first.
-use Rattle.std.specs.Prelude.{ℕ, ◌==◌, ◌≡◌, ◌⊎◌, Bool, ◌&&◌, if◌then◌else◌, List, ◌∷◌, map, filter, Option}
+-- What an inbox keeps: how many orderers there are, the quorum, the kind of graphs, and the counted NEWBLOCKs for each number, in the order of the puts.
+use Rattle.std.specs.Prelude.{ℕ, ◌==◌, ◌≡◌, ◌⊎◌, Bool, if◌then◌else◌, List, [], ◌∷◌, ◌++◌, map, reverse, filter, Option}
 use Rattle.std.specs.List.{list_any}
+use Rattle.keyed_lists.specs.Keyed.{IsPutAmong, items_of, list_at}
 use Rattle.txn_types.specs.declared.txn.Kind.{Kind}
 use Rattle.txn_types.specs.declared.block.Block.{Block}
 use Rattle.oxii_defs.specs.Dependency.{graph_of}
@@ -15,50 +16,54 @@ pub record KeptNewBlocks : Type 0 where
   pub orderers : ℕ
   pub quorum : ℕ
   pub kind : Kind
-  pub entries : List Received
+  pub entries : List (ℕ × List Received)
 
 -- the graph of an entry is its block's, of this kind
 pub record HasGraph (kind : Kind) (e : Received) : Type 0 where
   pub kind_is : e.graph.kind ≡ kind
   pub lists_are : e.graph.preds ≡ graph_of kind e.block.txns
 
--- it has this number
-abbrev pub is_numbered : ℕ → Received → Bool
-is_numbered n e = e.block.number == n
+-- an entry for this number, with its graph
+pub record IsKeptFor (kind : Kind) (n : ℕ) (e : Received) : Type 0 where
+  pub number : e.block.number ≡ n
+  pub graph : HasGraph kind e
 
--- the counted NEWBLOCKs for n, with their orderers
-abbrev pub kept_for : ℕ → List Received → List (ℕ × Block)
-kept_for n entries = map (λ e. (e.orderer, e.block)) (filter (is_numbered n) entries)
+-- the counted NEWBLOCKs for n, in the order of the puts
+abbrev pub received_for : ℕ → List (ℕ × List Received) → List Received
+received_for n entries = list_at (λ k. n == k) entries
 
--- the orderer has a counted NEWBLOCK for n
-abbrev pub has_sent : List Received → ℕ → ℕ → Bool
-has_sent entries o n = list_any (λ e. (e.orderer == o) && is_numbered n e) entries
+-- these with their orderers, the latest first
+abbrev pub kept_for : ℕ → List (ℕ × List Received) → List (ℕ × Block)
+kept_for n entries = map (λ e. (e.orderer, e.block)) (reverse (received_for n entries))
 
--- the first content with this previous hash that so many of the counted NEWBLOCKs for n carried
-abbrev pub ready_of : ℕ → ℕ → List ℕ → List Received → Option Block
-ready_of quorum n prev entries =
-    first_to_reach same_block quorum (filter (λ b. same_list same_number b.prev prev) (map (λ x. x.1) (kept_for n entries)))
+-- the orderer has one of these NEWBLOCKs
+abbrev pub has_sent : ℕ → List Received → Bool
+has_sent o received = list_any (λ e. e.orderer == o) received
 
--- the answer to a good NEWBLOCK
-abbrev pub answer_in_inbox : ℕ → ℕ → List Received → NewBlockPut
-answer_in_inbox o n entries = if has_sent entries o n then Repeat else Counted
+-- the first content with this previous hash that so many of these NEWBLOCKs carried, of which the latest stands first
+abbrev pub ready_of : ℕ → List ℕ → List (ℕ × Block) → Option Block
+ready_of quorum prev kept = first_to_reach same_block quorum (filter (λ b. same_list same_number b.prev prev) (map (λ x. x.1) kept))
 
--- what is kept behind a good NEWBLOCK: an entry more, unless the orderer has one for this number
-abbrev pub inbox_with : KeptNewBlocks → ℕ → Block → Shape → KeptNewBlocks
-inbox_with kept o block graph = record {
-  orderers = kept.orderers;
-  quorum = kept.quorum;
-  kind = kept.kind;
-  entries = if has_sent kept.entries o block.number then kept.entries else record { orderer = o; block = block; graph = graph } ∷ kept.entries;
-}
+-- the answer to a good NEWBLOCK, where these are counted for its number
+abbrev pub answer_in_inbox : ℕ → List Received → NewBlockPut
+answer_in_inbox o received = if has_sent o received then Repeat else Counted
 
--- the blocks of the counted NEWBLOCKs
-abbrev pub blocks_of : List Received → List Block
-blocks_of entries = map (λ e. e.block) entries
+-- these NEWBLOCKs and one behind them, unless its orderer has one of them
+abbrev pub with_received : Received → List Received → List Received
+with_received e received = if has_sent e.orderer received then received else received ++ e ∷ []
+
+-- the blocks of the counted NEWBLOCKs, number by number
+abbrev pub blocks_of : List (ℕ × List Received) → List Block
+blocks_of entries = map (λ e. e.block) (items_of entries)
 
 -- what is kept behind a NEWBLOCK with this block, whatever the answer: the blocks that were kept, or this one besides
 pub record KeepsWith (old : KeptNewBlocks) (block : Block) (new : KeptNewBlocks) : Type 0 where
   pub orderers : new.orderers ≡ old.orderers
   pub quorum : new.quorum ≡ old.quorum
   pub kind : new.kind ≡ old.kind
-  pub blocks : (blocks_of new.entries ≡ blocks_of old.entries) ⊎ (blocks_of new.entries ≡ block ∷ blocks_of old.entries)
+  pub blocks : (blocks_of new.entries ≡ blocks_of old.entries) ⊎ IsPutAmong (blocks_of old.entries) block (blocks_of new.entries)
+
+-- what is kept behind a good NEWBLOCK: it counts for its number, and for others nothing changes
+pub record IsBehindNewBlock (old : KeptNewBlocks) (o : ℕ) (block : Block) (graph : Shape) (new : KeptNewBlocks) : Type 0 where
+  pub keeps : KeepsWith old block new
+  pub entries : (m : ℕ) → received_for m new.entries ≡ (if block.number == m then with_received (record { orderer = o; block = block; graph = graph }) (received_for m old.entries) else received_for m old.entries)

@@ -1,19 +1,21 @@
 ghost use Rattle.std.specs.Prelude.{◌≡◌, ◌≤◌, [], ◌∷◌, length, Contains, OnOk, OnErr, IfOk, IfSome};
+ghost use Rattle.std.specs.List.{All};
 ghost use Rattle.std.specs.Option.{option_map};
 ghost use Rattle.node_defs.specs.Accepted.{accepted};
 ghost use Rattle.node_defs.specs.Log.{Log};
 ghost use Rattle.node_defs.specs.Rules.{Rules};
 ghost use Rattle.txn_core.specs.Graphs.{IsGraphOf};
-ghost use Rattle.newblock_quorum.specs.Entries.{HasGraph, KeepsWith, answer_in_inbox, blocks_of, has_sent, inbox_with};
+ghost use Rattle.newblock_quorum.specs.Entries.{HasGraph, IsBehindNewBlock, IsKeptFor, KeepsWith, answer_in_inbox, blocks_of, has_sent, received_for};
 ghost use Rattle.newblock_quorum.specs.Newblocks.{InboxStandsFor, answer_to_newblock, letter_of, orderer_of};
 
 use crate::entry::{NewBlockPut, Received};
 use crate::linked::LinkedBlocks;
 use counting_laws::first_to_reach;
+use keyed_lists::KeyedLists;
 use std::alloc::Global;
 use std::marker::Model;
 use txn_core::Graph;
-use txn_types::{Block, GrowingList, Kind, NewBlock, Node, OutOfMemory};
+use txn_types::{Block, Kind, NewBlock, Node, OutOfMemory};
 
 /// NEWBLOCKs of the orderers of a table. Of each orderer the first good one for each number counts, in the order of the puts.
 #[derive(Drop)]
@@ -21,19 +23,19 @@ pub struct Inbox {
     orderers: u8,
     quorum: u8,
     kind: Kind,
-    entries: GrowingList<Received>,
+    entries: KeyedLists<u64, Received>,
 }
 
 impl Model for Inbox {
-    ghost use Rattle.std.specs.Prelude.{reverse};
+    ghost use Rattle.std.specs.Prelude.{ℕ};
     ghost use Rattle.std.specs.List.{All};
-    ghost use Rattle.newblock_quorum.specs.Entries.{HasGraph, KeptNewBlocks};
+    ghost use Rattle.newblock_quorum.specs.Entries.{IsKeptFor, KeptNewBlocks, received_for};
 
     ghost Value = { KeptNewBlocks };
 
-    ghost view = { λ inbox. record { orderers = inbox.orderers; quorum = inbox.quorum; kind = inbox.kind; entries = reverse inbox.entries } };
+    ghost view = { λ inbox. record { orderers = inbox.orderers; quorum = inbox.quorum; kind = inbox.kind; entries = inbox.entries } };
 
-    ghost invariant = { λ inbox. All (HasGraph inbox.kind) inbox.entries };
+    ghost invariant = { λ inbox. (n : ℕ) → All (IsKeptFor inbox.kind n) (received_for n inbox.entries) };
 }
 
 /// A content that has reached the quorum, and the graph of its block.
@@ -43,12 +45,10 @@ pub struct Ready<'a> {
     pub graph: &'a Graph,
 }
 
-fn has_entry(entries: &[Received], orderer: u8, n: u64) -> bool
-    ensures { result ≡ has_sent entries.now orderer n }
+fn has_entry(received: &[Received], orderer: u8) -> bool
+    ensures { result ≡ has_sent orderer received.now }
 {
-    entries
-        .iter()
-        .any(|e| e.orderer == orderer && e.block.number == n)
+    received.iter().any(|e| e.orderer == orderer)
 }
 
 impl Inbox {
@@ -66,14 +66,14 @@ impl Inbox {
             orderers,
             quorum,
             kind,
-            entries: GrowingList::new(alloc),
+            entries: KeyedLists::new(alloc),
         })
     }
 
     /// Takes a NEWBLOCK. Only one that is counted changes what the inbox answers.
     pub fn put(
         &mut self,
-        _alloc: Global,
+        alloc: Global,
         from: Node,
         msg: NewBlock,
     ) -> Result<NewBlockPut, OutOfMemory>
@@ -93,7 +93,7 @@ impl Inbox {
         let Some(graph) = Graph::checked(&block, self.kind, preds) else {
             return Ok(NewBlockPut::WrongGraph);
         };
-        let put = self.count(orderer, block, graph)?;
+        let put = self.count(alloc, orderer, block, graph)?;
         Ok(put)
     }
 
@@ -107,8 +107,9 @@ impl Inbox {
         ensures linked { IfSome result (λ r. r.block.now.prev ≡ prev.now) }
         ensures held { IfSome result (λ r. Contains (blocks_of self.now.entries) r.block.now) }
     {
-        let sought = LinkedBlocks { n, prev };
-        let entry = first_to_reach(&sought, self.quorum, self.entries.as_slice())?;
+        let sought = LinkedBlocks { prev };
+        let received = self.received(n);
+        let entry = first_to_reach(&sought, self.quorum, received)?;
         Some(Ready {
             block: &entry.block,
             graph: &entry.graph,
@@ -125,20 +126,36 @@ impl Inbox {
         }
     }
 
-    fn count(&mut self, orderer: u8, block: Block, graph: Graph) -> Result<NewBlockPut, OutOfMemory>
+    /// The counted NEWBLOCKs for `n`.
+    fn received(&self, n: u64) -> &[Received]
+        ensures received { result.now ≡ received_for n self.now.entries }
+        ensures kept { All (IsKeptFor self.now.kind n) result.now }
+    {
+        self.entries.at(&n)
+    }
+
+    fn count(
+        &mut self,
+        alloc: Global,
+        orderer: u8,
+        block: Block,
+        graph: Graph,
+    ) -> Result<NewBlockPut, OutOfMemory>
         requires { HasGraph self.old.kind (record { orderer = orderer; block = block; graph = graph }) }
-        ensures answer { IfOk result (λ put. put ≡ answer_in_inbox orderer block.number self.old.entries) }
-        ensures kept { OnOk result (self.new ≡ inbox_with self.old orderer block graph) }
+        ensures answer { IfOk result (λ put. put ≡ answer_in_inbox orderer (received_for block.number self.old.entries)) }
+        ensures kept { OnOk result (IsBehindNewBlock self.old orderer block graph self.new) }
         ensures err { OnErr result (self.new ≡ self.old) }
     {
-        if has_entry(self.entries.as_slice(), orderer, block.number) {
+        let n = block.number;
+        if has_entry(self.received(n), orderer) {
             return Ok(NewBlockPut::Repeat);
         }
-        self.entries.push(Received {
+        let received = Received {
             orderer,
             block,
             graph,
-        })?;
+        };
+        self.entries.push(alloc, n, received)?;
         Ok(NewBlockPut::Counted)
     }
 }

@@ -1,17 +1,14 @@
 //! The NEWBLOCKs that count towards a quorum.
 
-ghost use Rattle.std.specs.Prelude.{◌&&◌};
 ghost use Rattle.node_defs.specs.Same.{same_list, same_number};
-ghost use Rattle.newblock_quorum.specs.Entries.{is_numbered};
 
 use crate::entry::Received;
 use counting_laws::Tally;
 use txn_types::Block;
 
-/// Those whose block has this number and previous hash.
+/// Those whose block has this previous hash.
 #[derive(Drop)]
 pub struct LinkedBlocks<'a> {
-    pub n: u64,
     pub prev: &'a [u8; 32],
 }
 
@@ -20,12 +17,12 @@ impl<'a> Tally for LinkedBlocks<'a> {
 
     type Content = Block;
 
-    ghost counts = { λ sought e. is_numbered sought.n e && same_list same_number e.block.prev sought.prev.now };
+    ghost counts = { λ sought e. same_list same_number e.block.prev sought.prev.now };
 
     ghost content = { λ e. e.block };
 
     fn counts(&self, entry: &Received) -> bool {
-        entry.block.number == self.n && entry.block.prev == *self.prev
+        entry.block.prev == *self.prev
     }
 
     fn content<'b>(&self, entry: &'b Received) -> &'b Block {

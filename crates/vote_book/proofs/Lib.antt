@@ -1,2 +1,3 @@
+mod SpotLemmas
 mod PutLemmas
 mod Tallies

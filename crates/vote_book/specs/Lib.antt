@@ -1,5 +1,6 @@
 pub use Rattle.node_defs.specs.Same
 pub use Rattle.node_defs.specs.Counting
 pub use Rattle.txn_types.specs.Fitting
+pub use Rattle.keyed_lists.specs.Keyed
 pub mod Puts
 pub mod Ballots

@@ -10,11 +10,9 @@ pub enum VotePut {
     Counted,
 }
 
-/// A counted vote on position `t` of block `n`.
+/// A counted vote.
 #[derive(Drop)]
 pub struct Ballot {
     pub voter: u8,
-    pub n: u64,
-    pub t: u16,
     pub outcome: Outcome,
 }

@@ -1,37 +1,36 @@
 ghost use Rattle.std.specs.Prelude.{◌≡◌, ◌<◌, ◌∷◌, [], List, ℕ, OnOk, OnErr, IfOk, IfSome, option_copied};
 ghost use Rattle.txn_types.specs.Fitting.{Fits};
-ghost use Rattle.vote_book.specs.Ballots.{answer_in_book, book_with, has_voted};
+ghost use Rattle.vote_book.specs.Ballots.{IsBehindVote, answer_in_book, ballots_on, has_voted};
 ghost use Rattle.vote_book.specs.Puts.{Cast, BookStandsFor, agreed_on, answer_to_vote, cast_of, cast_on, voter_of};
 
 use crate::ballot::{Ballot, VotePut};
 use crate::fitting::{FittingVotes, has_peer};
+use crate::spot::Spot;
 use counting_laws::first_to_reach;
+use keyed_lists::KeyedLists;
 use std::alloc::Global;
 use std::marker::Model;
-use txn_types::{GrowingList, Node, OutOfMemory, Outcome, PeerSet, Txn};
+use txn_types::{Node, OutOfMemory, Outcome, PeerSet, Txn};
 
 /// Votes of several voters. On each position of a block the first of each voter counts, in the order of the puts.
 #[derive(Drop)]
 pub struct Book {
     voters: PeerSet,
-    ballots: GrowingList<Ballot>,
+    ballots: KeyedLists<Spot, Ballot>,
 }
 
 impl Model for Book {
-    ghost use Rattle.std.specs.Prelude.{reverse};
     ghost use Rattle.vote_book.specs.Ballots.{KeptVotes};
 
     ghost Value = { KeptVotes };
 
-    ghost view = { λ book. record { voters = book.voters; ballots = reverse book.ballots } };
+    ghost view = { λ book. record { voters = book.voters; ballots = book.ballots } };
 }
 
-fn has_ballot(ballots: &[Ballot], voter: u8, n: u64, t: u16) -> bool
-    ensures { result ≡ has_voted ballots.now voter n t }
+fn has_ballot(ballots: &[Ballot], voter: u8) -> bool
+    ensures { result ≡ has_voted voter ballots.now }
 {
-    ballots
-        .iter()
-        .any(|b| b.voter == voter && b.n == n && b.t == t)
+    ballots.iter().any(|b| b.voter == voter)
 }
 
 impl Book {
@@ -41,14 +40,14 @@ impl Book {
     {
         Ok(Book {
             voters: voters.copy(),
-            ballots: GrowingList::new(alloc),
+            ballots: KeyedLists::new(alloc),
         })
     }
 
     /// Takes a vote on position `t` of block `n`. Only one that is counted changes what the book answers.
     pub fn put(
         &mut self,
-        _alloc: Global,
+        alloc: Global,
         from: Node,
         n: u64,
         t: u16,
@@ -61,7 +60,7 @@ impl Book {
         ensures err { OnErr result (self.new ≡ self.old) }
     {
         let voter = self.voter(from);
-        let put = self.count(voter, n, t, outcome)?;
+        let put = self.count(alloc, voter, n, t, outcome)?;
         Ok(put)
     }
 
@@ -72,8 +71,9 @@ impl Book {
             option_copied result ≡ agreed_on agents.now tau txn.now (cast_on voters n t puts) }
         ensures fits { IfSome result (λ o. Fits txn.now o.now) }
     {
-        let votes = FittingVotes { n, t, agents, txn };
-        let ballot = first_to_reach(&votes, tau, self.ballots.as_slice())?;
+        let votes = FittingVotes { agents, txn };
+        let ballots = self.ballots.at(&Spot { n, t });
+        let ballot = first_to_reach(&votes, tau, ballots)?;
         Some(&ballot.outcome)
     }
 
@@ -89,27 +89,25 @@ impl Book {
 
     fn count(
         &mut self,
+        alloc: Global,
         voter: Option<u8>,
         n: u64,
         t: u16,
         outcome: &Outcome,
     ) -> Result<VotePut, OutOfMemory>
-        ensures answer { IfOk result (λ put. put ≡ answer_in_book voter n t self.old.ballots) }
-        ensures kept { OnOk result (self.new ≡ book_with self.old voter n t outcome.now) }
+        ensures answer { IfOk result (λ put. put ≡ answer_in_book voter (ballots_on n t self.old.ballots)) }
+        ensures kept { OnOk result (IsBehindVote self.old voter n t outcome.now self.new) }
         ensures err { OnErr result (self.new ≡ self.old) }
     {
         let Some(voter) = voter else {
             return Ok(VotePut::Stranger);
         };
-        if has_ballot(self.ballots.as_slice(), voter, n, t) {
+        let spot = Spot { n, t };
+        if has_ballot(self.ballots.at(&spot), voter) {
             return Ok(VotePut::Repeat);
         }
-        self.ballots.push(Ballot {
-            voter,
-            n,
-            t,
-            outcome: outcome.copy(),
-        })?;
+        let outcome = outcome.copy();
+        self.ballots.push(alloc, spot, Ballot { voter, outcome })?;
         Ok(VotePut::Counted)
     }
 }

@@ -4,6 +4,7 @@
 mod ballot;
 mod book;
 mod fitting;
+mod spot;
 
 pub use ballot::VotePut;
 pub use book::Book;

@@ -1,8 +1,7 @@
-use Rattle.std.proofs.Common.{◌∷◌, refl, subst, sym, ◌∙◌, ap}
+use Rattle.std.proofs.Common.{refl, sym, ◌∙◌, ap}
 use Rattle.std.proofs.lemmas.Bool.{true≢false}
 use Rattle.oxii_defs.specs.Dependency.{graph_of}
 use Rattle.newblock_quorum.specs.Entries.{KeptNewBlocks}
-use Rattle.newblock_quorum.specs.Newblocks.{InboxStandsFor, letter_of}
 use Rattle.newblock_quorum.proofs.GraphLists.{same_lists, lists_differ, lists_are}
 use Rattle.newblock_quorum.proofs.NewblockLemmas.{counted_is, wrong_is, stands_wrong, stands_good}
 use Rattle.newblock_quorum.proofs.inbox.Inbox.put.Goals as goal
@@ -33,5 +32,4 @@ returns-clause-stands c = λ rules L stands.
     let m = c.args.msg in
     let here = sym (ap (λ (k : KeptNewBlocks). same_lists m.preds (graph_of k.kind m.block.txns)) c.self.view_is) in
     let good = here ∙ lists_are m.preds (graph_of c.self.inside.kind m.block.txns) (λ differ. true≢false (c.in-Some-checked.ensures.none.1 differ)) in
-    subst (λ inbox. InboxStandsFor inbox rules (letter_of c.args.from m ∷ L)) (sym c.in_ok-put.ensures.kept)
-    (stands_good c.args.self.now rules L c.args.from c.in-Some.orderer m c.in-Some-checked.graph stands (sym c.orderer.ensures ∙ c.in-Some.is) good)
+    stands_good c.args.self.now c.count.new.self rules L c.args.from c.in-Some.orderer m c.in-Some-checked.graph stands (sym c.orderer.ensures ∙ c.in-Some.is) good c.in_ok-put.ensures.kept

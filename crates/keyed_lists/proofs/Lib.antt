@@ -1,0 +1,4 @@
+mod KeyedLemmas
+pub mod Among
+pub mod Numbers
+pub mod Pushes
