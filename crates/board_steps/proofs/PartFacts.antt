@@ -28,15 +28,15 @@ contains_at [] k l = absurd (omega arith)
 contains_at (x ∷ xs) zero l = ap (λ b. b || contains xs x) (eq-eqb x x refl)
 contains_at (x ∷ xs) (suc k) l = or_right (get_or xs k 0 == x) (contains xs (get_or xs k 0)) (contains_at xs k (omega arith))
 
-above : (w : ℕ) (ws : List ℕ) (q : ℕ) → IsRising (w ∷ ws) → contains ws q ≡ true → w < q
+pub above : (w : ℕ) (ws : List ℕ) (q : ℕ) → IsRising (w ∷ ws) → contains ws q ≡ true → w < q
 above w [] q rising h = absurd (false≢true h)
 above w (x ∷ ws) q rising h = let l = rising.0 in ⊎_elim (λ e. let a = eqb-true q x e in omega arith) (λ e. let a = above x ws q rising.1 e in omega arith) (or_cases (q == x) (contains ws q) h)
 
-rest_rises : (w : ℕ) (ws : List ℕ) → IsRising (w ∷ ws) → IsRising ws
+pub rest_rises : (w : ℕ) (ws : List ℕ) → IsRising (w ∷ ws) → IsRising ws
 rest_rises w [] rising = tt
 rest_rises w (x ∷ ws) rising = rising.1
 
-not_given : (g : Option ℕ) → (is_some g ≡ true → ⊥) → g ≡ None
+pub not_given : (g : Option ℕ) → (is_some g ≡ true → ⊥) → g ≡ None
 not_given (Some x) h = absurd (h refl)
 not_given None h = refl
 

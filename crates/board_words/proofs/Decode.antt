@@ -45,7 +45,7 @@ word_more None n e a b = absurd (a e)
 word_more (Some (Abort r)) n e a b = ap (λ k. Some (Abort k)) (ap reason_back e ∙ reason_is r)
 word_more (Some (Commit cells)) n e a b = absurd (b e)
 
-cell_is : (c : Option ℕ) → cell_back (cell_word c) ≡ c
+pub cell_is : (c : Option ℕ) → cell_back (cell_word c) ≡ c
 cell_is (Some x) = ap (λ b. cond b None (Some (x + 2 - 2))) (ne_eqb (x + 2) 1 (λ e. absurd (omega arith))) ∙ ap Some (omega arith)
 cell_is None = refl
 

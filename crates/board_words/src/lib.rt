@@ -11,5 +11,5 @@ mod versions;
 
 pub use closing::spans_of;
 pub use opening::{Opening, opening_of};
-pub use reading::read_all;
+pub use reading::{read_all, read_cell};
 pub use room::{no_outcomes, no_spans, own_copy};

@@ -21,7 +21,8 @@ fn word_at(closed: &Closed<u8, Global>, i: usize) -> u64
     closed.word(i)
 }
 
-fn read_cell(word: u64) -> Option<u64>
+/// What a result word or a version word says.
+pub fn read_cell(word: u64) -> Option<u64>
     requires { 0 < word }
     ensures { result ≡ cell_back word }
 {
