@@ -2,7 +2,6 @@
 
 ghost use Rattle.std.specs.Prelude.{◌∷◌, ◌≡◌, ◌<◌, ◌≤◌, [], true, length, is_some, if◌then◌else◌, IfOk, IfSome};
 ghost use Rattle.std.specs.List.{All};
-ghost use Rattle.txn_types.specs.declared.txn.Kind.TheVariants.{Full};
 ghost use Rattle.oxii_defs.specs.Lawful.{IsLawfulTable};
 ghost use Rattle.oxii_defs.specs.State.{State};
 ghost use Rattle.txn_core.specs.MeantTable.{table_of};
@@ -67,7 +66,6 @@ impl<'t> Peer<'t> {
         genesis: &Values,
     ) -> Result<Peer<'t>, OutOfMemory>
         requires lawful { IsLawfulTable (table_of table.now) }
-        requires full { table.now.kind ≡ Full }
         requires me { me < length table.now.peers }
         requires genesis { length genesis.now ≡ length table.now.records }
         ensures table { IfOk result (λ r. r.table ≡ table.now) }

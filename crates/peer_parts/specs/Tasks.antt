@@ -1,7 +1,6 @@
 -- One block, while it is worked on for one message.
 use Rattle.std.specs.Prelude.{ℕ, ◌≡◌, ◌<◌, not, Bool, List, [], length, map, get_or, take, Option, Some, None}
 use Rattle.txn_types.specs.declared.txn.Outcome.{Outcome}
-use Rattle.txn_types.specs.declared.txn.Kind.TheVariants.{Full}
 use Rattle.oxii_defs.specs.Lawful.{IsLawfulTable}
 use Rattle.oxii_defs.specs.Chain.{IsLawfulBlock}
 use Rattle.board_defs.specs.Closure.{Plan, is_own}
@@ -24,13 +23,12 @@ frame_of k = record { table = table_of k.table.now; txns = k.block.now.txns; bas
 abbrev pub with_own : Task → List (Option Outcome) → List Bool → Plan
 with_own k known own = record { table = table_of k.table.now; txns = k.block.now.txns; base = state_of k.base.now; known = known; own = own }
 
--- a lawful block of kind full with its graph, and for each position whether it is this peer's and what is agreed on it, which fits
+-- a lawful block with its graph, and for each position whether it is this peer's and what is agreed on it, which fits
 pub record IsTask (k : Task) : Type 0 where
   pub table : IsLawfulTable (table_of k.table.now)
   pub block : IsLawfulBlock (table_of k.table.now) k.block.now
   pub graph : IsGraphOf k.block.now.txns k.graph.now
   pub kind : k.graph.now.kind ≡ k.table.now.kind
-  pub full : k.table.now.kind ≡ Full
   pub own : length k.own.now ≡ length k.block.now.txns
   pub agreed : length k.agreed.now ≡ length k.block.now.txns
   pub fits : AllFitAt k.block.now.txns k.agreed.now

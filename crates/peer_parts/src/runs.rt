@@ -3,7 +3,6 @@
 ghost use Rattle.std.specs.Prelude.{◌≡◌, ◌<◌, ◌≤◌, ◌&&◌, not, is_some, ℕ, List, Option, true, false, length, get_or, map, None, IfOk, OnOk, MatchOption};
 ghost use Rattle.std.specs.Option.{option_or};
 ghost use Rattle.txn_types.specs.declared.txn.Outcome.{Outcome};
-ghost use Rattle.txn_types.specs.declared.txn.Kind.TheVariants.{Full};
 ghost use Rattle.board_defs.specs.Closure.{IsClosed, IsKnownClosed};
 ghost use Rattle.board_defs.specs.Trace.{IsLawfulTrace};
 ghost use Rattle.board_work.specs.Plans.{IsRunnable, plan_of, span_of};
@@ -18,11 +17,11 @@ use crate::known::{copy_of, learn};
 use crate::rounds::Task;
 use board_work::{Own, Plan, Ran, Spans};
 use dep_graph::knows_preds;
-use ready_board::Board;
 use std::alloc::Global;
 use std::thread::Threads;
 use steal_pool::{Gate, burst};
 use txn_types::{Known, OutOfMemory, Outcome};
+use version_slots::Slots;
 
 /// Whether position `t` is ready: it is this peer's, it isn't known, and all that it depends on is.
 fn is_ready(task: &Task, known: &Known, t: u16) -> bool
@@ -81,7 +80,7 @@ fn merge(known: &mut Known, ran: &Known)
     }
 }
 
-/// Runs a plan of kind full with so many workers.
+/// Runs a plan with so many workers.
 #[tactic(auto, using(crate::proofs::BurstLemmas::closed_by))]
 fn run_plan<R: Threads + Sync, G: Gate>(
     rt: &R,
@@ -91,12 +90,11 @@ fn run_plan<R: Threads + Sync, G: Gate>(
     gate: &G,
 ) -> Result<Ran, OutOfMemory>
     requires runnable { IsRunnable plan.now }
-    requires full { plan.now.table.now.kind ≡ Full }
     requires workers { (1 ≤ workers) × (workers ≤ 16) }
     ensures closed { IfOk result (λ ran. IsClosed (plan_of plan.now) workers ran.outcomes (map span_of ran.trace)) }
     ensures fit { IfOk result (λ ran. AllFitAt plan.now.block.now.txns ran.outcomes) }
 {
-    let ran = burst::<Board, G, R>(rt, alloc, plan, workers, gate)?;
+    let ran = burst::<Slots, G, R>(rt, alloc, plan, workers, gate)?;
     Ok(ran)
 }
 

@@ -43,7 +43,6 @@ kept_with : (p : KeptPeer) (ledger : List Entry) (state : List ℕ) (force : Lis
     → IfSome work (IsWellOpened (table_of p.table) ledger) → IfSome halted (IsLawfulSplit (table_of p.table)) → IsWellKept (with_parts p ledger state force work halted)
 kept_with p ledger state force work halted w entries hashed values seats opened split = record {
   lawful = w.lawful;
-  full = w.full;
   kind = w.kind;
   blocks = w.blocks;
   entries = entries;

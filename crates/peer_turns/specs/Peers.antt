@@ -5,7 +5,6 @@ use Rattle.std.specs.Option.{option_map}
 use Rattle.txn_types.specs.declared.message.Split.{Split}
 use Rattle.txn_types.specs.declared.message.Message.{Message}
 use Rattle.txn_types.specs.declared.message.Message.TheVariants as message
-use Rattle.txn_types.specs.declared.txn.Kind.TheVariants.{Full}
 use Rattle.txn_types.specs.declared.txn.Outcome.{Outcome}
 use Rattle.oxii_defs.specs.Table as meant
 use Rattle.txn_core.specs.declared.table.Table.{Table}
@@ -46,7 +45,6 @@ peer_of table d = record { table = table; me = d.me; inbox = d.inbox; book = d.b
 -- what holds of a peer without its log
 pub record IsWellKept (p : KeptPeer) : Type 0 where
   pub lawful : IsLawfulTable (table_of p.table)
-  pub full : p.table.kind ≡ Full
   pub kind : p.inbox.kind ≡ p.table.kind
   pub blocks : All (IsLawfulBlock (table_of p.table)) (inbox.blocks_of p.inbox.entries)
   pub entries : All (IsLawfulEntry (table_of p.table)) p.ledger

@@ -4,7 +4,6 @@ ghost use Rattle.std.specs.Prelude.{◌≡◌, ◌<◌, ◌≤◌, ℕ, List, tr
 ghost use Rattle.oxii_defs.specs.State.{State, contains};
 ghost use Rattle.oxii_defs.specs.Lawful.{IsLawfulTable};
 ghost use Rattle.txn_types.specs.declared.block.Block.{Block as Chained};
-ghost use Rattle.txn_types.specs.declared.txn.Kind.TheVariants.{Full};
 ghost use Rattle.txn_core.specs.MeantTable.{table_of};
 ghost use Rattle.txn_core.specs.States.{state_of};
 ghost use Rattle.node_defs.specs.Rules.{rules_of, in_force_behind};
@@ -46,7 +45,6 @@ fn find<R: Threads + Sync, G: Gate>(
     gate: &G,
 ) -> Result<Settled, OutOfMemory>
     requires table { IsLawfulTable (table_of table.now) }
-    requires full { table.now.kind ≡ Full }
     requires workers { (1 ≤ workers) × (workers ≤ 16) }
     requires force { length force.now ≡ length table.now.apps }
     requires state { length state.now ≡ length table.now.records }
@@ -90,7 +88,6 @@ pub fn work_on<R: Threads + Sync, G: Gate>(
     gate: &G,
 ) -> Result<WorkedOn, OutOfMemory>
     requires table { IsLawfulTable (table_of table.now) }
-    requires full { table.now.kind ≡ Full }
     requires workers { (1 ≤ workers) × (workers ≤ 16) }
     requires force { length force.now ≡ length table.now.apps }
     requires state { length state.now ≡ length table.now.records }

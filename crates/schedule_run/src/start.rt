@@ -2,7 +2,6 @@
 
 ghost use Rattle.std.specs.Prelude.{◌≡◌, ◌≤◌, ◌<◌, ◌++◌, [], length, map, IfOk, OnOk};
 ghost use Rattle.std.specs.List.{All};
-ghost use Rattle.txn_types.specs.declared.txn.Kind.TheVariants.{Full};
 ghost use Rattle.oxii_defs.specs.Dependency.{graph_of};
 ghost use Rattle.oxii_defs.specs.BlockBytes.{block_hash};
 ghost use Rattle.oxii_defs.specs.Chain.{IsLawfulBlock};
@@ -57,7 +56,6 @@ fn new_slot<'t>(
     genesis: &Values,
 ) -> Result<Option<Peer<'t>>, OutOfMemory>
     requires lawful { IsLawfulTable (table_of table.now) }
-    requires full { table.now.kind ≡ Full }
     requires me { me < length table.now.peers }
     requires genesis { length genesis.now ≡ length table.now.records }
     ensures { IfOk result (λ r. IsNewSlot table.now faulty.now (state_of genesis.now) me r) }
@@ -77,7 +75,6 @@ pub fn new_slots<'t>(
     genesis: &Values,
 ) -> Result<Vec<Option<Peer<'t>>>, OutOfMemory>
     requires lawful { IsLawfulTable (table_of table.now) }
-    requires full { table.now.kind ≡ Full }
     requires genesis { length genesis.now ≡ length table.now.records }
     ensures { IfOk result (λ r. AreNewSlots table.now faulty.now (state_of genesis.now) (length table.now.peers) r.items) }
 {

@@ -6,7 +6,6 @@ ghost use Rattle.oxii_defs.specs.State.{State};
 ghost use Rattle.oxii_defs.specs.Chain.{IsLawfulBlock};
 ghost use Rattle.oxii_defs.specs.Lawful.{IsLawfulBody, IsLawfulTable};
 ghost use Rattle.txn_types.specs.Values.{max_false};
-ghost use Rattle.txn_types.specs.declared.txn.Kind.TheVariants.{Full};
 ghost use Rattle.txn_types.specs.declared.event.Event as happening;
 ghost use Rattle.txn_types.specs.declared.event.Event.TheVariants as event;
 ghost use Rattle.txn_types.specs.declared.message.Node.TheVariants as node;
@@ -81,7 +80,6 @@ impl<'t> World<'t> {
         faulty: &NodeSet,
     ) -> Result<World<'t>, OutOfMemory>
         requires table { IsLawfulTable (table_of table.now) }
-        requires full { table.now.kind ≡ Full }
         requires genesis { length genesis.now ≡ length table.now.records }
         requires blocks { All (IsLawfulBlock (table_of table.now)) blocks.now }
         requires admitted { AreLawfulPieces (table_of table.now) admitted.now }
