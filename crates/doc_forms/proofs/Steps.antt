@@ -30,7 +30,6 @@ fails_under s (doc.Limit w n) check h = ap (within s) h
 fails_under s (doc.Contract app f) check h = fails_text_under s app f check h
 fails_under s (doc.Name p) check h = ap (within s) h
 fails_under s (doc.Double p) check h = ap (within s) h
-fails_under s doc.NotYet check h = h
 fails_under s doc.OutOfMemory check h = tt
 
 -- the outcome of a check, taken one step further up
@@ -72,7 +71,6 @@ fails_first (doc.Limit w n) first next h = ap (λ r. r >>= next) h
 fails_first (doc.Contract app f) first next h = fails_text_first app f first next h
 fails_first (doc.Name p) first next h = ap (λ r. r >>= next) h
 fails_first (doc.Double p) first next h = ap (λ r. r >>= next) h
-fails_first doc.NotYet first next h = h
 fails_first doc.OutOfMemory first next h = tt
 
 pub fails_here : {S : Type 0} (step : S → Data → Result S Fault) (i : ℕ) (done : S) (vs : List Value) (v : Value) (total : Result S Fault) (e : DocFault) → i < length vs → v ≡ get_or vs i v

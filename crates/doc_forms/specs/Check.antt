@@ -45,7 +45,6 @@ Fails (doc.Limit w n) check = check ≡ Err (Limit w n)
 Fails (doc.Contract app f) check = FailsText app f check
 Fails (doc.Name p) check = check ≡ Err (Name p)
 Fails (doc.Double p) check = check ≡ Err (Double p)
-Fails doc.NotYet check = ⊥
 Fails doc.OutOfMemory check = Unit {0}
 
 -- what a function returned, as contracts see it, is what the check gives, unless memory ran out
@@ -61,7 +60,6 @@ raised s (doc.Limit w n) = doc.Limit w n
 raised s (doc.Contract app f) = doc.Contract app f
 raised s (doc.Name p) = doc.Name (s ∷ p)
 raised s (doc.Double p) = doc.Double (s ∷ p)
-raised s doc.NotYet = doc.NotYet
 raised s doc.OutOfMemory = doc.OutOfMemory
 
 -- the same, unless memory ran out

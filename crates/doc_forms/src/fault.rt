@@ -117,8 +117,6 @@ pub enum DocFault {
     Name { path: Path },
     /// At this place stands a name that is taken.
     Double { path: Path },
-    /// It has a meaning, and isn't run so far.
-    NotYet,
     /// Memory was wanted and not there.
     OutOfMemory,
 }

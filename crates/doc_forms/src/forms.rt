@@ -32,7 +32,6 @@ fn raise(step: Step, fault: DocFault) -> DocFault
         DocFault::Contract { app, fault } => DocFault::Contract { app, fault },
         DocFault::Limit { which, limit } => DocFault::Limit { which, limit },
         DocFault::NotJson => DocFault::NotJson,
-        DocFault::NotYet => DocFault::NotYet,
         DocFault::OutOfMemory => DocFault::OutOfMemory,
     }
 }

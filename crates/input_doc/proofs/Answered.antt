@@ -18,7 +18,6 @@ fault_told bytes (doc.Limit which limit) h = inr h
 fault_told bytes (doc.Contract app f) h = inr h
 fault_told bytes (doc.Name path) h = inr h
 fault_told bytes (doc.Double path) h = inr h
-fault_told bytes doc.NotYet h = inr h
 fault_told bytes doc.OutOfMemory h = inl refl
 
 pub given_meaning : (bytes : List ℕ) (answer : Result Input DocFault) → Gives input_of answer (reading bytes) → IfOk answer (λ input. Means bytes (input_of input))

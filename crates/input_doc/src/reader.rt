@@ -61,7 +61,7 @@ fn read_exactly(alloc: Global, bytes: &[u8]) -> Result<Input, DocFault>
     read_document(alloc, &root)
 }
 
-/// What the bytes of a document mean, or its first fault in the order of the checks. `DocFault::NotYet` is no answer of this call.
+/// What the bytes of a document mean, or its first fault in the order of the checks.
 pub fn read_input(alloc: Global, bytes: &[u8]) -> Result<Input, DocFault>
     // What the document says, key by key.
     ensures meaning { IfOk result (λ input. Means bytes.now (input_of input)) }
