@@ -1,7 +1,7 @@
 -- What others' votes offer is taken over.
 use Rattle.std.specs.Prelude.{ℕ, ◌+◌, ◌<◌, ◌≡◌, Bool, true, false, not, ◌&&◌, is_some, cond, List, length, get_or, set, take, Option, Some, None, refl}
 use Rattle.std.proofs.Common.{sym, ◌∙◌, ap, subst, arith, ⊎_elim}
-use Rattle.std.proofs.lemmas.Bool.{false≢true, not-true, cases_eq, cases_lt}
+use Rattle.std.proofs.lemmas.Bool.{not-true, cases_eq, cases_lt}
 use Rattle.std.proofs.lemmas.Option.{none-some, same_Some}
 use Rattle.txn_types.specs.declared.txn.Outcome.{Outcome}
 use Rattle.known_defs.specs.Known.{txn_at, knows_all}

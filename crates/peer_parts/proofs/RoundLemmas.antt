@@ -14,7 +14,7 @@ use Rattle.oxii_defs.specs.State.{IsState}
 use Rattle.oxii_defs.specs.Table.{IsLawfulTxn}
 use Rattle.oxii_defs.specs.Lawful.{IsLawfulTable}
 use Rattle.known_defs.specs.Known.{txn_at, knows_all}
-use Rattle.board_defs.specs.Closure.{Plan, is_own, known_at, can_run, run_of, comes_to, closure_upto, closure, unless_known, run_outcome, run_outcomes_upto, run_outcomes, IsKnownClosed, IsLawfulPlan}
+use Rattle.board_defs.specs.Closure.{Plan, is_own, known_at, can_run, run_of, comes_to, closure_upto, closure, unless_known, run_outcomes, IsKnownClosed, IsLawfulPlan}
 use Rattle.node_laws.proofs.Same.{Within}
 use Rattle.node_laws.proofs.Growing.{knows_still}
 use Rattle.node_laws.proofs.Order.{within_push}

@@ -1,14 +1,5 @@
 -- The plan of a task's round is lawful.
-use Rattle.std.specs.Prelude.{◌≡◌, ◌≤◌, List, length, Option, Some, None}
-use Rattle.std.specs.List.{All}
-use Rattle.std.proofs.Common.{sym, subst, arith}
-use Rattle.std.proofs.lemmas.List.Elements.{All-nil}
-use Rattle.txn_types.specs.declared.txn.Txn.{Txn}
-use Rattle.txn_types.specs.declared.block.Block.{Block}
-use Rattle.txn_types.specs.declared.block.Config.{Config}
-use Rattle.oxii_defs.specs.Table.{Table, IsLawfulTxn}
-use Rattle.oxii_defs.specs.Lawful.{IsLawfulBody}
-use Rattle.oxii_defs.specs.Chain.{IsLawfulBlock}
+use Rattle.std.specs.Prelude.{◌≡◌, List, length, Option}
 use Rattle.txn_types.specs.Values.{AreValues}
 use Rattle.txn_types.specs.declared.txn.Outcome.{Outcome}
 use Rattle.board_defs.specs.Closure.{IsKnownClosed, IsLawfulPlan}

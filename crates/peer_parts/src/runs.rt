@@ -81,7 +81,6 @@ fn merge(known: &mut Known, ran: &Known)
 }
 
 /// Runs a plan with so many workers.
-#[tactic(auto, using(crate::proofs::BurstLemmas::closed_by))]
 fn run_plan<R: Threads + Sync, G: Gate>(
     rt: &R,
     alloc: Global,
