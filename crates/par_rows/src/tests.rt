@@ -5,6 +5,7 @@ mod devices;
 mod lists;
 mod not_taken;
 mod rows;
+mod words;
 
 use document_rows::{
     BASE, Said, Trouble, answer, edited, json, replaced, text_of, wrong_row, wrong_texts,

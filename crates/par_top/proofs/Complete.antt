@@ -13,7 +13,7 @@ use Rattle.input_doc.specs.Reading.{reading}
 use Rattle.input_doc.specs.Means.{Means, ExactlyOne}
 use Rattle.par_top.specs.declared.status.Status.{Status}
 use Rattle.par_top.specs.declared.status.Status.TheVariants as status
-use Rattle.par_top.specs.declared.command.Command.{Command}
+use Rattle.par_words.specs.declared.command.Command.{Command}
 use Rattle.par_top.specs.Commands.{Takes}
 use Rattle.par_top.specs.Faults.{HasFaultFor}
 use Rattle.par_top.specs.Top.{HasRead, IsHeadline, IsWrittenPart, IsRefusal, IsRefusedFor, refusal, document_limit, too_long}

@@ -3,7 +3,6 @@ pub mod LawfulBlocks
 pub mod WorldTextLemmas
 pub mod WorldLemmas
 pub mod TextLemmas
-pub mod WordLemmas
 pub mod DocumentLemmas
 pub mod Complete
 pub mod SerialHeadlines

@@ -1,17 +1,28 @@
 -- The headline, from the whole text.
-use Rattle.std.specs.Prelude.{ℕ, List, Option}
-use Rattle.par_top.specs.declared.command.Command.TheVariants.{Run}
+use Rattle.std.specs.Prelude.{ℕ, ◌≡◌, Bool, true, false, List, [], Option}
+use Rattle.std.specs.Io.KnownBytes.{Appends}
+use Rattle.std.proofs.Common.{subst}
+use Rattle.input_doc.specs.Inputs.{Input}
+use Rattle.par_words.specs.declared.command.Command.TheVariants.{Run}
+use Rattle.par_top.specs.Traced.{IsTraceText}
 use Rattle.par_top.specs.Top.{IsHeadline, IsSerialHeadline}
 use Rattle.par_top.proofs.WorldLemmas.{serial_is}
 
+no_trace : (workers : ℕ) (traced : Bool) (input : Input) (lines : List ℕ) → IsTraceText traced workers input lines → traced ≡ false → lines ≡ []
+no_trace workers true input lines is asked = cc
+no_trace workers false input lines is asked = is
+
 -- where the whole text was written, and the input is tame, it is one of serial runs
-pub serial_headline : (rest_old rest_new written_old written_new : Option (List ℕ)) → IsHeadline Run rest_old rest_new written_old written_new → IsSerialHeadline rest_old rest_new written_old written_new
-serial_headline rest_old rest_new written_old written_new h = record {
-  bytes = h.read.bytes;
-  input = h.read.input;
-  lines = h.lines;
-  read = h.read.read;
-  means = h.read.means;
-  written = h.written;
-  serial = serial_is h.read.input h.lines h.read.lawful h.read.text;
-}
+pub serial_headline : (workers : ℕ) (traced : Bool) (rest_old rest_new written_old written_new : Option (List ℕ)) → IsHeadline (Run workers traced) rest_old rest_new written_old written_new → IsSerialHeadline traced rest_old rest_new written_old written_new
+serial_headline workers traced rest_old rest_new written_old written_new h =
+    let printed = h.read.text in record {
+      bytes = h.read.bytes;
+      input = h.read.input;
+      text = printed.text;
+      trace = printed.trace;
+      read = h.read.read;
+      means = h.read.means;
+      written = subst (Appends written_old written_new) printed.whole h.written;
+      untraced = no_trace workers traced h.read.input printed.trace printed.bursts;
+      serial = serial_is h.read.input printed.text h.read.lawful printed.world;
+    }

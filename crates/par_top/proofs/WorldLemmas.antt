@@ -1,7 +1,7 @@
 -- The world of a document, and its text.
-use Rattle.std.specs.Prelude.{ℕ, ◌≡◌, ◌≤◌, List, [], length, Option, count_by, is_some, sum_by}
+use Rattle.std.specs.Prelude.{ℕ, ◌≡◌, ◌≤◌, ◌++◌, Bool, true, false, List, [], length, Option, count_by, is_some, sum_by}
 use Rattle.std.specs.List.{All}
-use Rattle.std.proofs.Common.{sym, ap, subst, ◌∙◌, arith}
+use Rattle.std.proofs.Common.{refl, sym, ap, subst, ◌∙◌, arith}
 use Rattle.txn_types.specs.declared.block.Block.{Block}
 use Rattle.txn_types.specs.declared.event.Event.{Event}
 use Rattle.txn_types.specs.declared.event.Event.TheVariants as event
@@ -18,13 +18,15 @@ use Rattle.txn_core.specs.States.{state_of}
 use Rattle.node_defs.specs.Admission.{AreLawfulPieces, pieces_of}
 use Rattle.node_defs.specs.Cutting.{rejected_from}
 use Rattle.node_defs.specs.Text.{text, IsTextOf}
-use Rattle.node_defs.specs.World.{World, Setting, setting_of, IsLawfulEvent, IsSaidByFaulty, IsWorld, is_false, items_named}
+use Rattle.node_defs.specs.World.{World, Setting, setting_of, IsLawfulEvent, IsSaidByFaulty, IsWorld, is_false, items_named, start}
 use Rattle.node_laws.proofs.Bodies.{lawful_pieces}
 use Rattle.text_laws.proofs.Counts.{carry_the_stream}
 use Rattle.text_laws.proofs.SerialTexts.{tame_texts}
-use Rattle.world_laws.specs.Worlds.{CanTake, KeptWorld, setting_with}
+use Rattle.world_laws.specs.Deliveries.{AreBursts, AreDeliveries}
+use Rattle.world_laws.specs.Worlds.{CanTake, HasBursts, KeptWorld, setting_with}
 use Rattle.input_doc.specs.Inputs.{Input, IsLawfulInput}
-use Rattle.par_top.specs.Commands.{IsTame, IsSerialText}
+use Rattle.par_top.specs.Traced.{IsTraceText, setting_over, trace_lines}
+use Rattle.par_top.specs.Commands.{IsRunText, IsTame, IsSerialText}
 use Rattle.par_top.specs.AgreedBlocks.{AreAgreedBlocks}
 
 -- BEFORE THE FIRST EVENT
@@ -64,7 +66,7 @@ IsTextOver : meant.Table → State → List Node → List Event → List ℕ →
 IsTextOver table genesis faulty events lines blocks pieces rejected =
     (w : World) × IsWorld (setting_with table genesis blocks pieces faulty) events w × (lines ≡ text (setting_with table genesis blocks pieces faulty) rejected w)
 
-pub run_text_is : (input : Input) (items : List Item) (blocks : List Block) (pieces : List (Option Piece)) (rejected : List Rejected) (lines : List ℕ) (w : World) →
+run_text_is : (input : Input) (items : List Item) (blocks : List Block) (pieces : List (Option Piece)) (rejected : List Rejected) (lines : List ℕ) (w : World) →
     items ≡ input.items → AreAgreedBlocks input.table input.limits items blocks → pieces ≡ pieces_of input.table items → rejected ≡ rejected_from input.table 0 items →
     IsWorld (setting_with input.table (state_of input.genesis) blocks pieces input.faulty) input.schedule w →
     lines ≡ text (setting_with input.table (state_of input.genesis) blocks pieces input.faulty) rejected w →
@@ -77,6 +79,46 @@ run_text_is input items blocks pieces rejected lines w same agreed admitted told
     let linked = subst (λ bs. over bs pieces rejected) ours.linked now in
     let carried = subst (λ ps. over (chain input.table ours.bodies) ps rejected) (admitted ∙ ap (pieces_of input.table) same) linked in
     (ours.bodies, ours.agreed, subst (λ rs. over (chain input.table ours.bodies) (pieces_of input.table input.items) rs) (told ∙ ap (rejected_from input.table 0) same) carried)
+
+-- the setting of the agreed blocks is that of their bodies
+setting_is : (input : Input) (blocks : List Block) (pieces : List (Option Piece)) (agreed : AreAgreedBlocks input.table input.limits input.items blocks) → pieces ≡ pieces_of input.table input.items →
+    setting_with input.table (state_of input.genesis) blocks pieces input.faulty ≡ setting_over input agreed.bodies
+setting_is input blocks pieces agreed admitted =
+    ap (λ bs. setting_with input.table (state_of input.genesis) bs pieces input.faulty) agreed.linked
+    ∙ ap (λ ps. setting_with input.table (state_of input.genesis) (chain input.table agreed.bodies) ps input.faulty) admitted
+
+-- what is traced of a world of the input's events
+trace_is : (workers : ℕ) (traced : Bool) (input : Input) (blocks : List Block) (pieces : List (Option Piece)) (k : KeptWorld) →
+    AreAgreedBlocks input.table input.limits input.items blocks → pieces ≡ pieces_of input.table input.items →
+    HasBursts workers k (setting_with input.table (state_of input.genesis) blocks pieces input.faulty) input.schedule →
+    IsTraceText traced workers input (trace_lines traced input.table k.bursts)
+trace_is workers false input blocks pieces k agreed admitted has = refl
+trace_is workers true input blocks pieces k agreed admitted has =
+    let same = setting_is input blocks pieces agreed admitted in record {
+      bodies = agreed.bodies;
+      agreed = agreed.agreed;
+      deliveries = has.0;
+      are = subst (λ s. AreDeliveries s (start s) input.schedule has.0) same has.1;
+      bursts = k.bursts;
+      of_deliveries = subst (λ s. AreBursts s workers has.0 k.bursts) same has.2;
+      printed = refl;
+    }
+
+-- the text of a world of the input's events, with its trace
+pub run_text_of : (workers : ℕ) (traced : Bool) (input : Input) (items : List Item) (blocks : List Block) (pieces : List (Option Piece)) (rejected : List Rejected) (lines : List ℕ) (w : World) (k : KeptWorld) →
+    table_of k.table ≡ input.table → items ≡ input.items → AreAgreedBlocks input.table input.limits items blocks → pieces ≡ pieces_of input.table items → rejected ≡ rejected_from input.table 0 items →
+    IsWorld (setting_with input.table (state_of input.genesis) blocks pieces input.faulty) input.schedule w →
+    HasBursts workers k (setting_with input.table (state_of input.genesis) blocks pieces input.faulty) input.schedule →
+    lines ≡ text (setting_with input.table (state_of input.genesis) blocks pieces input.faulty) rejected w ++ trace_lines traced (table_of k.table) k.bursts →
+    IsRunText workers traced input lines
+run_text_of workers traced input items blocks pieces rejected lines w k table_is same agreed admitted told led has printed =
+    let s = setting_with input.table (state_of input.genesis) blocks pieces input.faulty in record {
+      text = text s rejected w;
+      trace = trace_lines traced input.table k.bursts;
+      whole = printed ∙ ap (λ t. text s rejected w ++ trace_lines traced t k.bursts) table_is;
+      world = run_text_is input items blocks pieces rejected (text s rejected w) w same agreed admitted told led refl;
+      bursts = trace_is workers traced input blocks pieces k (subst (λ (xs : List Item). AreAgreedBlocks input.table input.limits xs blocks) same agreed) (admitted ∙ ap (pieces_of input.table) same) has;
+    }
 
 -- TAME DOCUMENTS
 

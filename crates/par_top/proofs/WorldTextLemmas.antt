@@ -66,7 +66,7 @@ parts_more s w i n text new rest more all =
     all ∙ sym (ap (λ t. t ++ parts_of s w (count_from (suc i) n)) more ∙ append_assoc text (if is_faulty s (Peer i) then [] else part_of s i (log_of w i)) (parts_of s w (count_from (suc i) n)))
 
 -- head, parts and tail
-pub text_is : (s : Setting) (w : World) (rejected : List Rejected) (count messages idle : ℕ) (empty first second third : List ℕ) →
+text_is : (s : Setting) (w : World) (rejected : List Rejected) (count messages idle : ℕ) (empty first second third : List ℕ) →
     length s.chain ≡ count → messages ≡ length w.pool → idle ≡ w.idle →
     empty ≡ [] → first ≡ empty ++ (flat_map rejected_line rejected ++ blocks_line count) →
     second ≡ first ++ parts_of s w (count_from 0 (peers_of s)) → third ≡ second ++ tail_lines messages idle →
@@ -79,3 +79,12 @@ text_is s w rejected count messages idle empty first second third counted sent i
     ∙ ap (λ n. ((rejects ++ blocks_line n) ++ middle) ++ tail_lines messages idle) (sym counted)
     ∙ ap (λ m. ((rejects ++ blocks_line (length s.chain)) ++ middle) ++ tail_lines m idle) sent
     ∙ ap (λ d. ((rejects ++ blocks_line (length s.chain)) ++ middle) ++ tail_lines (length w.pool) d) idly
+
+-- the whole text, and a trace behind it
+pub traced_text_is : (s : Setting) (w : World) (rejected : List Rejected) (count messages idle : ℕ) (empty first second third fourth trace : List ℕ) →
+    length s.chain ≡ count → messages ≡ length w.pool → idle ≡ w.idle →
+    empty ≡ [] → first ≡ empty ++ (flat_map rejected_line rejected ++ blocks_line count) →
+    second ≡ first ++ parts_of s w (count_from 0 (peers_of s)) → third ≡ second ++ tail_lines messages idle → fourth ≡ third ++ trace →
+    fourth ≡ text s rejected w ++ trace
+traced_text_is s w rejected count messages idle empty first second third fourth trace counted sent idly none head parts tail behind =
+    behind ∙ ap (λ t. t ++ trace) (text_is s w rejected count messages idle empty first second third counted sent idly none head parts tail)

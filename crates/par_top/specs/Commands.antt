@@ -1,38 +1,35 @@
 -- The commands, and what each takes and prints.
-use Rattle.std.specs.Prelude.{◌≡◌, ℕ, List, [], ◌∷◌, codes}
+use Rattle.std.specs.Prelude.{◌≡◌, ℕ, Bool, List, ◌++◌}
 use Rattle.txn_types.specs.declared.txn.Kind.TheVariants.{Full}
 use Rattle.node_defs.specs.Text.{IsTextOf}
 use Rattle.node_defs.specs.GraphText.{IsGraphTextOf}
 use Rattle.text_laws.specs.SerialText as serial
 use Rattle.txn_core.specs.States.{state_of}
 use Rattle.input_doc.specs.Inputs.{Input}
-use Rattle.par_top.specs.declared.command.Command.{Command}
-use Rattle.par_top.specs.declared.command.Command.TheVariants.{Run, Graph}
-
-abbrev pub word_of : Command → List ℕ
-word_of Run = codes "run"
-word_of Graph = codes "graph"
-
--- the words are the one word of the command
-abbrev pub Says : List (List ℕ) → Command → Type 0
-Says words command = words ≡ word_of command ∷ []
-
--- the words are a command
-abbrev pub IsCommand : List (List ℕ) → Type 0
-IsCommand words = (command : Command) × Says words command
+use Rattle.par_words.specs.declared.command.Command.{Command}
+use Rattle.par_words.specs.declared.command.Command.TheVariants.{Run, Graph}
+use Rattle.par_top.specs.Traced.{IsTraceText}
 
 -- WHAT A COMMAND TAKES
 
 -- a run takes documents whose graphs are of kind full so far, and `graph` each document
 abbrev pub Takes : Command → Input → Type 0
-Takes Run input = input.table.kind ≡ Full
+Takes (Run workers traced) input = input.table.kind ≡ Full
 Takes Graph input = Unit {0}
 
 -- WHAT IT PRINTS
 
--- what `run` prints: the text of the world of its events, over the chain of its agreed blocks
-abbrev pub IsRunText : Input → List ℕ → Type 0
-IsRunText input lines = IsTextOf input.table (state_of input.genesis) input.items input.limits input.faulty input.schedule lines
+-- what `run` prints whatever its options: the text of the world of its events, over the chain of its agreed blocks
+abbrev pub IsWorldText : Input → List ℕ → Type 0
+IsWorldText input lines = IsTextOf input.table (state_of input.genesis) input.items input.limits input.faulty input.schedule lines
+
+-- what `run` prints with these options: that text, and behind it what is traced
+pub record IsRunText (workers : ℕ) (traced : Bool) (input : Input) (lines : List ℕ) : Type 0 where
+  pub text : List ℕ
+  pub trace : List ℕ
+  pub whole : lines ≡ text ++ trace
+  pub world : IsWorldText input text
+  pub bursts : IsTraceText traced workers input trace
 
 -- what `graph` prints
 abbrev pub IsGraphText : Input → List ℕ → Type 0
@@ -40,7 +37,7 @@ IsGraphText input lines = IsGraphTextOf input.table input.items input.limits lin
 
 -- what the command prints of a document
 abbrev pub IsTextFor : Command → Input → List ℕ → Type 0
-IsTextFor Run input lines = IsRunText input lines
+IsTextFor (Run workers traced) input lines = IsRunText workers traced input lines
 IsTextFor Graph input lines = IsGraphText input lines
 
 -- TAME DOCUMENTS

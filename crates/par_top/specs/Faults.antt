@@ -4,7 +4,7 @@ use Rattle.doc_forms.specs.declared.fault.DocFault.{DocFault}
 use Rattle.doc_forms.specs.declared.fault.DocFault.TheVariants as doc
 use Rattle.input_doc.specs.Inputs.{Input}
 use Rattle.input_doc.specs.Means.{Means, IsFaultOf}
-use Rattle.par_top.specs.declared.command.Command.{Command}
+use Rattle.par_words.specs.declared.command.Command.{Command}
 use Rattle.par_top.specs.Commands.{Takes}
 
 -- the bytes have a meaning, and the command doesn't take it so far

@@ -1,5 +1,5 @@
 -- What a run of the program promises.
-use Rattle.std.specs.Prelude.{◌≡◌, ◌⊎◌, ℕ, List, Option, Result, Err}
+use Rattle.std.specs.Prelude.{◌≡◌, ◌⊎◌, ℕ, Bool, false, List, [], ◌++◌, Option, Result, Err}
 use Rattle.std.specs.Io.KnownBytes.{Appends}
 use Rattle.par_io.specs.Causes.{Rose}
 use Rattle.par_io.specs.Reading.{ReadWhole, ReadTooMuch, ReadWithin}
@@ -11,10 +11,11 @@ use Rattle.doc_forms.specs.Faults.{Fault}
 use Rattle.doc_forms.specs.Check.{Fails}
 use Rattle.input_doc.specs.Inputs.{Input, IsLawfulInput}
 use Rattle.input_doc.specs.Means.{Means}
-use Rattle.par_top.specs.declared.command.Command.{Command}
+use Rattle.par_words.specs.Words.{Says}
+use Rattle.par_words.specs.declared.command.Command.{Command}
 use Rattle.par_top.specs.declared.status.Status.{Status}
 use Rattle.par_top.specs.declared.status.Status.TheVariants as status
-use Rattle.par_top.specs.Commands.{Says, Takes, IsTextFor, IsTame, IsSerialText}
+use Rattle.par_top.specs.Commands.{Takes, IsTextFor, IsTame, IsSerialText}
 use Rattle.par_top.specs.Faults.{HasFaultFor}
 
 -- a document has at most 4 MiB
@@ -46,15 +47,17 @@ pub record IsHeadline (command : Command) (rest_old rest_new written_old written
   pub read : HasRead command rest_old rest_new lines
   pub written : Appends written_old written_new lines
 
--- the source was read to its end, what it had means an input, and what was written is its text; where that is tame, each peer that isn't faulty printed the serial run of the blocks that it completed, whatever the schedule
-pub record IsSerialHeadline (rest_old rest_new written_old written_new : Option (List ℕ)) : Type 0 where
+-- the source was read to its end, what it had means an input, and what was written is a text, and behind it what is traced, which is nothing where no trace is asked for. Where the input is tame, the text is that of serial runs: each peer that isn't faulty printed the serial run of the blocks that it completed, whatever the schedule and however many workers there are
+pub record IsSerialHeadline (traced : Bool) (rest_old rest_new written_old written_new : Option (List ℕ)) : Type 0 where
   pub bytes : List ℕ
   pub input : Input
-  pub lines : List ℕ
+  pub text : List ℕ
+  pub trace : List ℕ
   pub read : ReadWhole rest_old rest_new document_limit bytes
   pub means : Means bytes input
-  pub written : Appends written_old written_new lines
-  pub serial : IsTame input → IsSerialText input lines
+  pub written : Appends written_old written_new (text ++ trace)
+  pub untraced : traced ≡ false → trace ≡ []
+  pub serial : IsTame input → IsSerialText input text
 
 -- the source was read to its end, and what it had means an input that the command takes, and a part from the front of its text was written
 pub record IsWrittenPart (command : Command) (rest_old rest_new written_old written_new : Option (List ℕ)) : Type 0 where

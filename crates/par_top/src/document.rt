@@ -8,8 +8,8 @@ ghost use Rattle.par_top.specs.Commands.{Takes};
 ghost use Rattle.par_top.specs.Faults.{RefusesFor};
 
 use crate::DocFault;
-use crate::command::Command;
 use input_doc::{Input, read_input};
+use par_words::Command;
 use std::alloc::Global;
 use txn_types::Kind;
 
@@ -17,7 +17,7 @@ fn takes(command: Command, input: &Input) -> bool
     ensures { IsTrue result ↔ Takes command (input_of input.now) }
 {
     match command {
-        Command::Run => input.table.kind == Kind::Full,
+        Command::Run { .. } => input.table.kind == Kind::Full,
         Command::Graph => true,
     }
 }

@@ -2,7 +2,6 @@
 #![tactic(auto)]
 
 mod agreed;
-mod command;
 mod document;
 mod graphs;
 mod paths;

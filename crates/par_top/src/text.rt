@@ -1,30 +1,29 @@
 //! The printed text of a document.
 
-ghost use Rattle.std.specs.Prelude.{◌≡◌, IfOk};
+ghost use Rattle.std.specs.Prelude.{◌≡◌, ◌≤◌, IfOk};
 ghost use Rattle.std.specs.List.{All};
+ghost use Rattle.txn_types.specs.declared.txn.Kind.TheVariants.{Full};
 ghost use Rattle.oxii_defs.specs.Chain.{IsLawfulBlock};
 ghost use Rattle.node_defs.specs.Admission.{pieces_of};
 ghost use Rattle.txn_core.specs.MeantTable.{table_of};
 ghost use Rattle.txn_core.specs.States.{state_of};
-ghost use Rattle.world_laws.specs.Worlds.{IsWorldOf, setting_with};
+ghost use Rattle.world_laws.specs.Worlds.{HasBursts, IsWorldOf, setting_with};
 ghost use Rattle.par_top.specs.AgreedBlocks.{AreAgreedBlocks};
 ghost use Rattle.input_doc.specs.Inputs.{IsLawfulInput};
 ghost use Rattle.input_doc.specs.Held.{input_of};
-ghost use Rattle.par_top.specs.Commands.{IsRunText, IsGraphText, IsTextFor};
+ghost use Rattle.par_words.specs.Words.{HasWorkers};
+ghost use Rattle.par_top.specs.Commands.{Takes, IsRunText, IsGraphText, IsTextFor};
 
 use crate::Gate;
 use crate::agreed::{Agreed, agree};
-use crate::command::Command;
 use crate::graphs::push_graph_text;
 use crate::world_text::report;
 use input_doc::Input;
+use par_words::Command;
 use schedule_run::World;
 use std::alloc::Global;
 use std::thread::Threads;
 use txn_types::{OutOfMemory, Text};
-
-/// How many workers a peer has. No option says otherwise yet, and each peer runs its blocks on the caller's thread.
-const WORKERS: u8 = 4;
 
 // The world of the schedule over the agreed blocks.
 fn play<'t, R: Threads + Sync, G: Gate>(
@@ -32,13 +31,18 @@ fn play<'t, R: Threads + Sync, G: Gate>(
     alloc: Global,
     input: &'t Input,
     agreed: &Agreed,
+    workers: u8,
     gate: &G,
 ) -> Result<World<'t>, OutOfMemory>
     requires lawful { IsLawfulInput (input_of input.now) }
+    requires full { input.now.table.kind ≡ Full }
+    requires workers { (1 ≤ workers) × (workers ≤ 16) }
     requires agreed { AreAgreedBlocks (table_of input.now.table) input.now.limits input.now.items agreed.now.blocks }
     requires blocks { All (IsLawfulBlock (table_of input.now.table)) agreed.now.blocks }
     requires admitted { agreed.now.admitted ≡ pieces_of (table_of input.now.table) input.now.items }
-    ensures { IfOk result (λ r. IsWorldOf r (state_of input.now.genesis) (setting_with (table_of input.now.table) (state_of input.now.genesis) agreed.now.blocks agreed.now.admitted input.now.faulty) input.now.schedule) }
+    ensures stands { IfOk result (λ r. IsWorldOf r (state_of input.now.genesis) (setting_with (table_of input.now.table) (state_of input.now.genesis) agreed.now.blocks agreed.now.admitted input.now.faulty) input.now.schedule) }
+    ensures bursts { IfOk result (λ r. HasBursts workers r (setting_with (table_of input.now.table) (state_of input.now.genesis) agreed.now.blocks agreed.now.admitted input.now.faulty) input.now.schedule) }
+    ensures table { IfOk result (λ r. r.table ≡ input.now.table) }
 {
     let world = World::new(
         alloc,
@@ -48,7 +52,7 @@ fn play<'t, R: Threads + Sync, G: Gate>(
         &agreed.admitted,
         &input.faulty,
     )?;
-    let world = world.run(rt, alloc, input.schedule.as_slice(), WORKERS, gate)?;
+    let world = world.run(rt, alloc, input.schedule.as_slice(), workers, gate)?;
     Ok(world)
 }
 
@@ -57,15 +61,19 @@ fn run_text<R: Threads + Sync, G: Gate>(
     rt: &R,
     alloc: Global,
     input: &Input,
+    workers: u8,
+    trace: bool,
     gate: &G,
 ) -> Result<Text, OutOfMemory>
     requires lawful { IsLawfulInput (input_of input.now) }
-    ensures text { IfOk result (IsRunText (input_of input.now)) }
+    requires full { input.now.table.kind ≡ Full }
+    requires workers { (1 ≤ workers) × (workers ≤ 16) }
+    ensures text { IfOk result (IsRunText workers trace (input_of input.now)) }
 {
     let agreed = agree(alloc, &input.table, input.items.as_slice(), &input.limits)?;
-    let world = play(rt, alloc, input, &agreed, gate)?;
+    let world = play(rt, alloc, input, &agreed, workers, gate)?;
     let count = agreed.blocks.len() as u64;
-    let text = report(alloc, &world, &agreed.rejected, count, false)?;
+    let text = report(alloc, &world, &agreed.rejected, count, trace)?;
     Ok(text)
 }
 
@@ -90,10 +98,12 @@ pub fn text_for<R: Threads + Sync, G: Gate>(
     gate: &G,
 ) -> Result<Text, OutOfMemory>
     requires lawful { IsLawfulInput (input_of input.now) }
+    requires taken { Takes command (input_of input.now) }
+    requires workers { HasWorkers command }
     ensures text { IfOk result (IsTextFor command (input_of input.now)) }
 {
     match command {
-        Command::Run => run_text(rt, alloc, input, gate),
+        Command::Run { workers, trace } => run_text(rt, alloc, input, workers, trace, gate),
         Command::Graph => graph_report(alloc, input),
     }
 }

@@ -1,20 +1,21 @@
 //! The top call.
 
-ghost use Rattle.std.specs.Prelude.{◌≡◌, ◌≤◌, ◌<◌, ◌⊎◌, ◌↔◌, List, ℕ, Some, length, map, string_bytes};
+ghost use Rattle.std.specs.Prelude.{◌≡◌, ◌≤◌, ◌<◌, ◌⊎◌, ◌↔◌, ◌≢◌, Bool, List, ℕ, Some, length, map, string_bytes};
 ghost use Rattle.par_io.specs.Causes.{Rose};
 ghost use Rattle.input_doc.specs.Inputs.{Input};
 ghost use Rattle.doc_forms.specs.Faults.{Fault};
 ghost use Rattle.input_doc.specs.Means.{Means, HasFault};
-ghost use Rattle.par_top.specs.declared.command.Command.TheVariants.{Run};
-ghost use Rattle.par_top.specs.Commands.{Says, IsCommand, Takes};
+ghost use Rattle.par_words.specs.declared.command.Command.TheVariants.{Run};
+ghost use Rattle.par_words.specs.Words.{Says, IsCommand, HasWorkers};
+ghost use Rattle.par_top.specs.Commands.{Takes};
 ghost use Rattle.par_top.specs.Statuses.{CanSay};
 ghost use Rattle.par_top.specs.Top.{OfCommand, IsHeadline, IsReadFault, IsSerialHeadline, IsWrittenPart, IsRefusal, IsRefusedFor, document_limit, too_long};
 
-use crate::command::{Command, command_of};
 use crate::document::document_for;
 use crate::text::text_for;
 use crate::{DocFault, Gate, Status, Which};
 use par_io::{ReadFail, Sink, Source, read_all, write_all};
+use par_words::{Command, command_of};
 use std::alloc::Global;
 use std::thread::Threads;
 
@@ -29,6 +30,7 @@ fn run_command<R: Threads + Sync, S: Source, K: Sink, G: Gate>(
     sink: &mut K,
     gate: &G,
 ) -> Status
+    requires workers { HasWorkers command }
     ensures ok { result ≡ Status.Ok → IsHeadline command (S.rest source.old) (S.rest source.new) (K.written sink.old) (K.written sink.new) }
     ensures not_usage { result ≡ Status.Usage → ⊥ }
     ensures refused { (fault : DocFault) → result ≡ Status.Refused fault → IsRefusal command (S.rest source.old) (S.rest source.new) fault }
@@ -63,7 +65,7 @@ fn run_command<R: Threads + Sync, S: Source, K: Sink, G: Gate>(
     Status::Ok
 }
 
-/// Does what the words say, over a document that it reads from the source: `run` plays its schedule and writes what each peer that isn't faulty comes to, `graph` writes its agreed blocks with their graphs. No thread is started yet.
+/// Does what the words say, over a document that it reads from the source: `run` plays its schedule and writes what each peer that isn't faulty comes to, `graph` writes its agreed blocks with their graphs. `--workers` says how many workers a peer has, which changes no byte but those of the trace, and `--trace` adds what ran with each delivery, by which worker.
 pub fn run<R: Threads + Sync, S: Source, K: Sink, G: Gate>(
     rt: &R,
     alloc: Global,
@@ -72,15 +74,15 @@ pub fn run<R: Threads + Sync, S: Source, K: Sink, G: Gate>(
     sink: &mut K,
     gate: &G,
 ) -> Status
-    // The headline: where few enough nodes are faulty, each peer that isn't printed exactly the blocks that it holds quorums for, with the outcomes of running their transactions one after another, whatever the schedule loses, repeats or reorders.
-    ensures serial { result ≡ Status.Ok → Says (map string_bytes words.now) Run → IsSerialHeadline (S.rest source.old) (S.rest source.new) (K.written sink.old) (K.written sink.new) }
+    // The headline, for each number of workers: where few enough nodes are faulty, each peer that isn't printed exactly the blocks that it holds quorums for, with the outcomes of running their transactions one after another, whatever the schedule loses, repeats or reorders. What is said of these lines doesn't name the workers.
+    ensures serial { result ≡ Status.Ok → (workers : ℕ) (traced : Bool) → Says (map string_bytes words.now) (Run workers traced) → IsSerialHeadline traced (S.rest source.old) (S.rest source.new) (K.written sink.old) (K.written sink.new) }
 
-    // The whole text of a document that was read to its end, whoever is faulty.
+    // The whole text of a document that was read to its end, whoever is faulty, and its trace with bursts of these workers.
     ensures ok { result ≡ Status.Ok → OfCommand (map string_bytes words.now) (λ command. IsHeadline command (S.rest source.old) (S.rest source.new) (K.written sink.old) (K.written sink.new)) }
 
-    // Usage exactly where the words are no command; then nothing is touched.
-    ensures usage { (result ≡ Status.Usage) ↔ (¬ IsCommand (map string_bytes words.now)) }
-    ensures untouched { result ≡ Status.Usage → (source.new ≡ source.old) × (sink.new ≡ sink.old) }
+    // Usage exactly where the words are no command, unless memory is wanted; with such words nothing is touched.
+    ensures usage { (result ≡ Status.Usage) ↔ ((¬ IsCommand (map string_bytes words.now)) × (result ≢ Status.OutOfMemory)) }
+    ensures untouched { ¬ IsCommand (map string_bytes words.now) → (source.new ≡ source.old) × (sink.new ≡ sink.old) }
 
     // A refusal has its cause in what was read, and a fault in the object that failed; before a read fault came no more bytes than a document has. Want of memory is no refusal.
     ensures sayable { CanSay result }
@@ -110,8 +112,9 @@ pub fn run<R: Threads + Sync, S: Source, K: Sink, G: Gate>(
         → ¬ Rose (S.faults source.old) (S.faults source.new)
         → (result ≡ Status.Refused too_long) ⊎ (result ≡ Status.OutOfMemory) }
 {
-    match command_of(words) {
-        Some(command) => run_command(rt, alloc, command, source, sink, gate),
-        None => Status::Usage,
+    match command_of(alloc, words) {
+        Ok(Some(command)) => run_command(rt, alloc, command, source, sink, gate),
+        Ok(None) => Status::Usage,
+        Err(_) => Status::OutOfMemory,
     }
 }

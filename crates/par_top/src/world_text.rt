@@ -1,6 +1,6 @@
 //! The printed text of a world.
 
-ghost use Rattle.std.specs.Prelude.{◌≡◌, ◌<◌, ◌++◌, List, [], length, false, OnOk, IfOk, IfSome, if◌then◌else◌};
+ghost use Rattle.std.specs.Prelude.{◌≡◌, ◌<◌, ◌++◌, List, [], length, OnOk, IfOk, IfSome, if◌then◌else◌};
 ghost use Rattle.std.specs.List.{flat_map};
 ghost use Rattle.txn_types.specs.declared.event.Event as event;
 ghost use Rattle.txn_types.specs.declared.message.Node.TheVariants as node;
@@ -15,10 +15,11 @@ ghost use Rattle.txn_core.specs.MeantTable.{table_of};
 ghost use Rattle.peer_turns.specs.Relation.{StandsFor};
 ghost use Rattle.world_laws.specs.Shown.{IsPeerFor, IsShown};
 ghost use Rattle.world_laws.specs.Worlds.{IsWorldOf, peer_in};
+ghost use Rattle.par_top.specs.Traced.{bursts_lines, trace_lines};
 
 use peer_core::Peer;
-use report_text::{head, peer_part, tail};
-use schedule_run::World;
+use report_text::{burst_part, head, peer_part, tail};
+use schedule_run::{Burst, World};
 use std::alloc::Global;
 use txn_core::Table;
 use txn_types::{OutOfMemory, Rejects, Text};
@@ -77,7 +78,45 @@ fn push_parts(alloc: Global, text: &mut Text, world: &World<'_>) -> Result<(), O
     Ok(())
 }
 
-/// The printed text of a world: the rejected requests, how many blocks are agreed, the ledger and state of each peer that isn't faulty, and how many messages and idle deliveries there were. `trace` is no choice yet.
+// The lines of bursts, in order.
+fn push_bursts(
+    alloc: Global,
+    text: &mut Text,
+    table: &Table,
+    bursts: &[Burst],
+) -> Result<(), OutOfMemory>
+    ensures { OnOk result (text.new ≡ text.old ++ bursts_lines (table_of table.now) bursts.now) }
+{
+    for burst in bursts {
+        burst_part(
+            alloc,
+            text,
+            table,
+            burst.peer,
+            burst.spans.n,
+            &burst.spans.spans,
+        )?;
+    }
+    Ok(())
+}
+
+// What ran, where it is traced.
+fn push_trace(
+    alloc: Global,
+    text: &mut Text,
+    world: &World<'_>,
+    trace: bool,
+) -> Result<(), OutOfMemory>
+    ensures { OnOk result (text.new ≡ text.old ++ trace_lines trace (table_of world.now.table) world.now.bursts) }
+{
+    if trace {
+        push_bursts(alloc, text, world.table(), world.bursts().as_slice())
+    } else {
+        Ok(())
+    }
+}
+
+/// The printed text of a world: the rejected requests, how many blocks are agreed, the ledger and state of each peer that isn't faulty, and how many messages and idle deliveries there were; and behind that, where it is traced, what ran.
 pub fn report(
     alloc: Global,
     world: &World<'_>,
@@ -85,12 +124,12 @@ pub fn report(
     blocks: u64,
     trace: bool,
 ) -> Result<Text, OutOfMemory>
-    requires trace { trace ≡ false }
-    ensures { IfOk result (λ lines. (genesis : State) (s : Setting) (events : List event.Event) → length s.chain ≡ blocks → IsWorldOf world.now genesis s events → (v : meant.World) × IsWorld s events v × (lines ≡ printed.text s rejected.now v)) }
+    ensures { IfOk result (λ lines. (genesis : State) (s : Setting) (events : List event.Event) → length s.chain ≡ blocks → IsWorldOf world.now genesis s events → (v : meant.World) × IsWorld s events v × (lines ≡ printed.text s rejected.now v ++ trace_lines trace (table_of world.now.table) world.now.bursts)) }
 {
     let mut text = Text::new(alloc);
     head(alloc, &mut text, rejected, blocks)?;
     push_parts(alloc, &mut text, world)?;
     tail(alloc, &mut text, world.messages(), world.idle())?;
+    push_trace(alloc, &mut text, world, trace)?;
     Ok(text)
 }

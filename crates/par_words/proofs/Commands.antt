@@ -1,12 +1,12 @@
 -- The command that `run` and its words are, from what is read of the words.
-use Rattle.std.proofs.Common.{◌≡◌, ◌∙◌, ℕ, Bool, refl, sym, ap, subst, List, [], ◌∷◌, Option, Some, None, arith, codes}
+use Rattle.std.proofs.Common.{◌≡◌, ◌∙◌, ℕ, Bool, false, refl, sym, ap, subst, List, [], ◌∷◌, Option, Some, None, arith, codes}
 use Rattle.std.specs.Prelude.{unwrap_or}
 use Rattle.std.proofs.lemmas.Fmt.{decimal_injective}
 use Rattle.clap.specs.Matches.{first_value}
 use Rattle.clap.specs.declared.parser.matches.Found.{Found}
 use Rattle.par_words.specs.declared.command.Command.{Command}
 use Rattle.par_words.specs.declared.command.Command.TheVariants.{Run, Graph}
-use Rattle.par_words.specs.Words.{AreOptions, IsCommand, Says, SayRun}
+use Rattle.par_words.specs.Words.{AreOptions, nothing, trace_word, two_words, one_word, IsNumberOfWorkers, HasWorkers, IsCommand, Says, SayRun}
 use Rattle.par_words.specs.OptionUses.{Text, Use, uses_in}
 use Rattle.par_words.specs.RunOptions.{run_options, value_in, is_true, IsRunOf, WritesWorkers}
 use Rattle.par_words.proofs.Saying.{IsValue, IsRead, is_read}
@@ -70,6 +70,18 @@ not_written words uses read none (Run n traced, said) =
     writes_so (value_in r.more (codes "workers")) said.given r.value
     (subst (λ (us : List Use). (m : ℕ) → ¬ WritesWorkers (value_in us (codes "workers")) m) (sym (same_uses words uses r.more read r.read)) none)
 not_written words uses read none (Graph, said) = not_graph words said
+
+-- A NUMBER OF WORKERS
+
+given_number : (words : List Text) (given : Option ℕ) (traced : Bool) → AreOptions words given traced → IsNumberOfWorkers (unwrap_or given 4)
+given_number words given traced nothing = (omega arith, omega arith)
+given_number words given traced (trace_word rest number said) = given_number rest number false said
+given_number words given traced (two_words n rest asked range said) = range
+given_number words given traced (one_word n rest asked range said) = range
+
+pub has_workers : (words : List Text) (c : Command) → Says words c → HasWorkers c
+has_workers words (Run n traced) said = subst IsNumberOfWorkers (sym said.number) (given_number said.rest said.given traced said.options)
+has_workers words Graph said = tt
 
 -- BY WHAT CLAP FOUND
 

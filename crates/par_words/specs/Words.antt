@@ -32,6 +32,11 @@ Says words Graph = words ≡ codes "graph" ∷ []
 abbrev pub IsCommand : List (List ℕ) → Type 0
 IsCommand words = (command : Command) × Says words command
 
+-- a run has a number of workers
+abbrev pub HasWorkers : Command → Type 0
+HasWorkers (Run workers traced) = IsNumberOfWorkers workers
+HasWorkers Graph = Unit {0}
+
 -- words are at most one command
 abbrev pub SayOneCommand : Type 0
 SayOneCommand = (words : List (List ℕ)) (one other : Command) → Says words one → Says words other → one ≡ other

@@ -1,7 +1,7 @@
 //! The command that words are.
 
-ghost use Rattle.std.specs.Prelude.{◌≡◌, ◌∷◌, codes, map, string_bytes, IfOk, MatchOption};
-ghost use Rattle.par_words.specs.Words.{Says, IsCommand, SayOneCommand};
+ghost use Rattle.std.specs.Prelude.{◌≡◌, ◌∷◌, codes, map, string_bytes, IfOk, IfSome, MatchOption};
+ghost use Rattle.par_words.specs.Words.{Says, IsCommand, HasWorkers, SayOneCommand};
 
 use crate::options::read_run;
 use std::alloc::Global;
@@ -39,8 +39,10 @@ fn read_command(alloc: Global, first: &str, rest: &[String]) -> Result<Option<Co
 }
 
 /// The command that the words are, if they are one.
+#[tactic(auto, using(crate::proofs::Commands::has_workers))]
 pub fn command_of(alloc: Global, words: &[String]) -> Result<Option<Command>, OutOfMemory>
-    ensures { IfOk result (λ command. MatchOption command (¬ IsCommand (map string_bytes words.now)) (Says (map string_bytes words.now))) }
+    ensures says { IfOk result (λ command. MatchOption command (¬ IsCommand (map string_bytes words.now)) (Says (map string_bytes words.now))) }
+    ensures workers { IfOk result (λ command. IfSome command HasWorkers) }
 {
     match words {
         [] => Ok(None),

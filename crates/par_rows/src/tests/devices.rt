@@ -1,9 +1,10 @@
-//! Sources and sinks in small pieces, some of which fail, other words, and the line of each status.
+//! Sources and sinks in small pieces, some of which fail, and the line of each status.
 
 use super::*;
 use par_top::{DocFault, Status, status_code};
 
-const TRANSFER_TEXT: &str =
+/// What a run writes of the transfer document.
+pub const TRANSFER_TEXT: &str =
     "blocks 1\npeer p1 completed 1\nblock 1 736451c8f7eecfcc365addef3327c516f9701079c13dbfe32ef9e21eb649ed19\ntxn 1 bank transfer commit a=6 b=4\nstate 2\nvalue a 6\nvalue b 4\nmessages 2\nidle 0\n";
 
 const OVERFLOW_TEXT: &str =
@@ -22,8 +23,8 @@ fn words_of(alloc: Global, line: &str) -> Result<Vec<String>, AllocError> {
     Ok(words)
 }
 
-// What is said and written over memory in pieces of 100 and 16 bytes, which fails in the calls that are listed.
-fn in_pieces<R: Threads + Sync>(
+/// What is said and written over memory in pieces of 100 and 16 bytes, which fails in the calls that are listed.
+pub fn in_pieces<R: Threads + Sync>(
     rt: &R,
     alloc: Global,
     line: &str,
@@ -76,28 +77,6 @@ fn failing_devices(rt: HostRuntime) -> Result<(), Fail> {
     let said = in_pieces(&rt, alloc, "run", TRANSFER, (&[], &[3]))?;
     assert_eq!(rt; said.line.as_str(), "parblock: write fault\n");
     assert_eq!(rt; said.text.as_str(), "blocks 1\npeer p1 completed 1\nblo");
-    Ok(())
-}
-
-// Each other list of words is no command.
-#[test]
-fn other_words(rt: HostRuntime) -> Result<(), Fail> {
-    for line in [
-        "",
-        "Run",
-        "live",
-        "run run",
-        "run graph",
-        "graph graph",
-        "run --workers 2",
-        "run --workers 0",
-        "run --",
-        "soak --seed 1",
-    ] {
-        let said = in_pieces(&rt, rt.alloc(), line, TRANSFER, (&[], &[]))?;
-        assert_eq!(rt; said.line.as_str(), "parblock: usage\n", "{line}");
-        assert_eq!(rt; said.text.as_str(), "", "{line}");
-    }
     Ok(())
 }
 

@@ -1,36 +1,36 @@
 use Rattle.std.proofs.Common.{subst, sym}
 use Rattle.input_doc.proofs.Once.{exactly_one}
-use Rattle.par_top.specs.declared.command.Command.{Command}
-use Rattle.par_top.specs.declared.command.Command.TheVariants.{Run}
+use Rattle.par_words.specs.declared.command.Command.{Command}
+use Rattle.par_words.specs.declared.command.Command.TheVariants.{Run}
 use Rattle.par_top.specs.Commands.{Takes}
 use Rattle.par_top.specs.Top.{IsHeadline}
 use Rattle.par_top.proofs.SerialHeadlines.{serial_headline}
 use Rattle.par_top.proofs.Complete.{is_answered, is_other, is_faulty, is_long}
-use Rattle.par_top.proofs.WordLemmas.{one_command}
+use Rattle.par_words.proofs.Commands.{one_command}
 use Rattle.par_top.proofs.top.run.Goals as goal
 
-pub returns-in-Some-clause-complete : goal.returns-in-Some-clause-complete
-returns-in-Some-clause-complete g c command bytes input says told short means taken read written =
-    is_answered c.in-Some.command c.run_command.result _ _ bytes input _ _ _ _ exactly_one told short means
-    (subst (λ (k : Command). Takes k input) (one_command _ command c.in-Some.command says c.in-Some.ensures) taken) read written
+pub returns-in-Ok-Some-clause-complete : goal.returns-in-Ok-Some-clause-complete
+returns-in-Ok-Some-clause-complete g c command bytes input says told short means taken read written =
+    is_answered c.in-Ok-Some.command c.run_command.result _ _ bytes input _ _ _ _ exactly_one told short means
+    (subst (λ (k : Command). Takes k input) (one_command _ command c.in-Ok-Some.command says c.in-Ok-Some.ensures) taken) read written
     c.run_command.ensures.not_usage c.run_command.ensures.refused (λ e. (c.run_command.ensures.read_fault e).rose) c.run_command.ensures.write_fault
 
-pub returns-in-Some-clause-other : goal.returns-in-Some-clause-other
-returns-in-Some-clause-other g c command bytes input says told short means other read =
-    is_other c.in-Some.command c.run_command.result _ _ _ _ bytes input _ _ (exactly_one bytes) told short means
-    (λ taken. other (subst (λ (k : Command). Takes k input) (sym (one_command _ command c.in-Some.command says c.in-Some.ensures)) taken)) read
+pub returns-in-Ok-Some-clause-other : goal.returns-in-Ok-Some-clause-other
+returns-in-Ok-Some-clause-other g c command bytes input says told short means other read =
+    is_other c.in-Ok-Some.command c.run_command.result _ _ _ _ bytes input _ _ (exactly_one bytes) told short means
+    (λ taken. other (subst (λ (k : Command). Takes k input) (sym (one_command _ command c.in-Ok-Some.command says c.in-Ok-Some.ensures)) taken)) read
     c.run_command.ensures.ok c.run_command.ensures.not_usage c.run_command.ensures.refused (λ e. (c.run_command.ensures.read_fault e).rose) c.run_command.ensures.part
 
-pub returns-in-Some-clause-faulty : goal.returns-in-Some-clause-faulty
-returns-in-Some-clause-faulty g c command bytes fault says told short is read =
-    is_faulty c.in-Some.command c.run_command.result _ _ _ _ bytes fault _ _ (exactly_one bytes) told short is read
+pub returns-in-Ok-Some-clause-faulty : goal.returns-in-Ok-Some-clause-faulty
+returns-in-Ok-Some-clause-faulty g c command bytes fault says told short is read =
+    is_faulty c.in-Ok-Some.command c.run_command.result _ _ _ _ bytes fault _ _ (exactly_one bytes) told short is read
     c.run_command.ensures.ok c.run_command.ensures.not_usage c.run_command.ensures.refused (λ e. (c.run_command.ensures.read_fault e).rose) c.run_command.ensures.part
 
-pub returns-in-Some-clause-too_long : goal.returns-in-Some-clause-too_long
-returns-in-Some-clause-too_long g c command bytes says told long read =
-    is_long c.in-Some.command c.run_command.result _ _ _ _ bytes _ _ told long read
+pub returns-in-Ok-Some-clause-too_long : goal.returns-in-Ok-Some-clause-too_long
+returns-in-Ok-Some-clause-too_long g c command bytes says told long read =
+    is_long c.in-Ok-Some.command c.run_command.result _ _ _ _ bytes _ _ told long read
     c.run_command.ensures.ok c.run_command.ensures.not_usage c.run_command.ensures.refused (λ e. (c.run_command.ensures.read_fault e).rose) c.run_command.ensures.part
 
-pub returns-in-Some-clause-serial : goal.returns-in-Some-clause-serial
-returns-in-Some-clause-serial g c ok says =
-    serial_headline _ _ _ _ (subst (λ (k : Command). IsHeadline k (g.S.Source.rest c.args.source.now) (g.S.Source.rest c.run_command.new.source) (g.K.Sink.written c.args.sink.now) (g.K.Sink.written c.run_command.new.sink)) (sym (one_command _ Run c.in-Some.command says c.in-Some.ensures)) (c.run_command.ensures.ok ok))
+pub returns-in-Ok-Some-clause-serial : goal.returns-in-Ok-Some-clause-serial
+returns-in-Ok-Some-clause-serial g c ok workers traced says =
+    serial_headline workers traced _ _ _ _ (subst (λ (k : Command). IsHeadline k (g.S.Source.rest c.args.source.now) (g.S.Source.rest c.run_command.new.source) (g.K.Sink.written c.args.sink.now) (g.K.Sink.written c.run_command.new.sink)) (sym (one_command _ (Run workers traced) c.in-Ok-Some.command says c.in-Ok-Some.ensures)) (c.run_command.ensures.ok ok))

@@ -1,0 +1,65 @@
+//! Command words: options in each form, and words that are no command.
+
+use super::devices::{TRANSFER_TEXT, in_pieces};
+use super::*;
+
+// Words that are no command.
+#[test]
+fn bad_words(rt: HostRuntime) -> Result<(), Fail> {
+    for line in [
+        "",
+        "run --workers 0",
+        "run --workers 17",
+        "run --workers",
+        "run --workers 2 --workers 2",
+        "run --workers 02",
+        "run --",
+        "live",
+        "soak --seed 1",
+        "Run",
+        "run run",
+        "run graph",
+        "graph graph",
+        "graph --trace",
+        "--trace run",
+        "run --trace --trace",
+        "run --trace=x",
+        "run --trace --workers=1 --workers 2",
+        "run --workers --trace",
+        "run --workers=",
+        "run --workers +2",
+        "run --workers=-2",
+        "run --workers 1.0",
+        "run --work 2",
+        "run -w 2",
+        "run -",
+        "run -h",
+        "run --help",
+        "run --version",
+    ] {
+        let said = in_pieces(&rt, rt.alloc(), line, TRANSFER, (&[1], &[1]))?;
+        assert_eq!(rt; said.line.as_str(), "parblock: usage\n", "{line}");
+        assert_eq!(rt; said.text.as_str(), "", "{line}");
+    }
+    Ok(())
+}
+
+// What ran is printed behind the text where it is asked for, and the number of workers changes nothing else.
+#[test]
+fn options(rt: HostRuntime) -> Result<(), Fail> {
+    let alloc = rt.alloc();
+    let traced = format!(in alloc; "{TRANSFER_TEXT}burst p1 1 1\nspan 1 1 0 1\n")?;
+    for (line, text) in [
+        ("run --workers 1 --trace", traced.as_str()),
+        ("run --workers=16 --trace", traced.as_str()),
+        ("run --trace --workers 1", traced.as_str()),
+        ("run --trace", traced.as_str()),
+        ("run --workers=1", TRANSFER_TEXT),
+        ("run --workers 16", TRANSFER_TEXT),
+    ] {
+        let said = in_pieces(&rt, alloc, line, TRANSFER, (&[], &[]))?;
+        assert_eq!(rt; said.line.as_str(), "", "{line}");
+        assert_eq!(rt; said.text.as_str(), text, "{line}");
+    }
+    Ok(())
+}
