@@ -10,12 +10,10 @@ use Rattle.input_doc.specs.Inputs.{Input}
 use Rattle.doc_forms.specs.Faults.{Fault}
 use Rattle.doc_forms.specs.Check.{Fails}
 use Rattle.input_doc.specs.Reading.{reading}
-use Rattle.input_doc.specs.Means.{Means, ExactlyOne}
+use Rattle.input_doc.specs.Means.{Means, IsFaultOf, ExactlyOne}
 use Rattle.par_top.specs.declared.status.Status.{Status}
 use Rattle.par_top.specs.declared.status.Status.TheVariants as status
 use Rattle.par_words.specs.declared.command.Command.{Command}
-use Rattle.par_top.specs.Commands.{Takes}
-use Rattle.par_top.specs.Faults.{HasFaultFor}
 use Rattle.par_top.specs.Top.{HasRead, IsHeadline, IsWrittenPart, IsRefusal, IsRefusedFor, refusal, document_limit, too_long}
 
 -- what was read to the end of a source that tells its bytes is all of them
@@ -28,114 +26,62 @@ no_more bytes taken None consumed = absurd consumed
 no_more bytes taken (Some rest) consumed = omega (arith, length-append taken rest, ap length consumed)
 
 -- bytes that mean an input have no fault
-no_fault : (command : Command) (bytes : List ℕ) (input : Input) (f : DocFault) → ExactlyOne bytes → Means bytes input → Takes command input → HasFaultFor command bytes f → ⊥
-no_fault command bytes input fault.NotJson once means taken h = once.not_both input _ means h
-no_fault command bytes input (fault.Field path) once means taken h = once.not_both input _ means h
-no_fault command bytes input (fault.Limit which limit) once means taken h = once.not_both input _ means h
-no_fault command bytes input (fault.Contract app text.OutOfMemory) once means taken h = h
-no_fault command bytes input (fault.Contract app (text.Syntax at)) once means taken h = once.not_both input _ means h
-no_fault command bytes input (fault.Contract app (text.UnknownName at)) once means taken h = once.not_both input _ means h
-no_fault command bytes input (fault.Contract app (text.Kind at)) once means taken h = once.not_both input _ means h
-no_fault command bytes input (fault.Contract app (text.Limit at)) once means taken h = once.not_both input _ means h
-no_fault command bytes input (fault.Contract app (text.Double at)) once means taken h = once.not_both input _ means h
-no_fault command bytes input (fault.Name path) once means taken h = once.not_both input _ means h
-no_fault command bytes input (fault.Double path) once means taken h = once.not_both input _ means h
-no_fault command bytes input fault.NotYet once means taken h = h.other (subst (λ (i : Input). Takes command i) (once.one_meaning input h.input means h.means) taken)
-no_fault command bytes input fault.OutOfMemory once means taken h = h
+no_fault : (bytes : List ℕ) (input : Input) (f : DocFault) → ExactlyOne bytes → Means bytes input → IsFaultOf bytes f → ⊥
+no_fault bytes input fault.NotJson once means h = once.not_both input _ means h
+no_fault bytes input (fault.Field path) once means h = once.not_both input _ means h
+no_fault bytes input (fault.Limit which limit) once means h = once.not_both input _ means h
+no_fault bytes input (fault.Contract app text.OutOfMemory) once means h = h
+no_fault bytes input (fault.Contract app (text.Syntax at)) once means h = once.not_both input _ means h
+no_fault bytes input (fault.Contract app (text.UnknownName at)) once means h = once.not_both input _ means h
+no_fault bytes input (fault.Contract app (text.Kind at)) once means h = once.not_both input _ means h
+no_fault bytes input (fault.Contract app (text.Limit at)) once means h = once.not_both input _ means h
+no_fault bytes input (fault.Contract app (text.Double at)) once means h = once.not_both input _ means h
+no_fault bytes input (fault.Name path) once means h = once.not_both input _ means h
+no_fault bytes input (fault.Double path) once means h = once.not_both input _ means h
+no_fault bytes input fault.OutOfMemory once means h = h
 
-no_refusal : (command : Command) (bytes : List ℕ) (new : Option (List ℕ)) (input : Input) (f : DocFault) → ((bytes : List ℕ) → ExactlyOne bytes) → length bytes ≤ document_limit → Means bytes input → Takes command input → IsRefusal command (Some bytes) new f → ⊥
-no_refusal command bytes new input f once short means taken (inl long) = omega (arith, no_more bytes long.1.0 new long.1.1, long.1.2)
-no_refusal command bytes new input f once short means taken (inr is) =
-    no_fault command bytes input f (once bytes) means taken (subst (λ (xs : List ℕ). HasFaultFor command xs f) (all_read bytes is.bytes new is.read.taken is.read.end) is.is)
+no_refusal : (bytes : List ℕ) (new : Option (List ℕ)) (input : Input) (f : DocFault) → ((bytes : List ℕ) → ExactlyOne bytes) → length bytes ≤ document_limit → Means bytes input → IsRefusal (Some bytes) new f → ⊥
+no_refusal bytes new input f once short means (inl long) = omega (arith, no_more bytes long.1.0 new long.1.1, long.1.2)
+no_refusal bytes new input f once short means (inr is) =
+    no_fault bytes input f (once bytes) means (subst (λ (xs : List ℕ). IsFaultOf xs f) (all_read bytes is.bytes new is.read.taken is.read.end) is.is)
 
 -- each other status has a cause that is not there
-pub is_answered : (command : Command) (result : Status) (old new : Option (List ℕ)) (bytes : List ℕ) (input : Input) (source source_new sink sink_new : ℕ)
-    → ((bytes : List ℕ) → ExactlyOne bytes) → old ≡ Some bytes → length bytes ≤ document_limit → Means bytes input → Takes command input
+pub is_answered : (result : Status) (old new : Option (List ℕ)) (bytes : List ℕ) (input : Input) (source source_new sink sink_new : ℕ)
+    → ((bytes : List ℕ) → ExactlyOne bytes) → old ≡ Some bytes → length bytes ≤ document_limit → Means bytes input
     → ¬ Rose source source_new → ¬ Rose sink sink_new
     → (result ≡ status.Usage → ⊥)
-    → ((f : DocFault) → result ≡ status.Refused f → IsRefusal command old new f)
+    → ((f : DocFault) → result ≡ status.Refused f → IsRefusal old new f)
     → (result ≡ status.ReadFault → Rose source source_new)
     → (result ≡ status.WriteFault → Rose sink sink_new)
     → (result ≡ status.Ok) ⊎ (result ≡ status.OutOfMemory)
-is_answered command status.Ok old new bytes input s s' k k' once told short means taken read written usage refused read_fault write_fault = inl refl
-is_answered command status.Usage old new bytes input s s' k k' once told short means taken read written usage refused read_fault write_fault = absurd (usage refl)
-is_answered command (status.Refused f) old new bytes input s s' k k' once told short means taken read written usage refused read_fault write_fault =
-    absurd (no_refusal command bytes new input f once short means taken (subst (λ (o : Option (List ℕ)). IsRefusal command o new f) told (refused f refl)))
-is_answered command status.OutOfMemory old new bytes input s s' k k' once told short means taken read written usage refused read_fault write_fault = inr refl
-is_answered command status.ReadFault old new bytes input s s' k k' once told short means taken read written usage refused read_fault write_fault = absurd (read (read_fault refl))
-is_answered command status.WriteFault old new bytes input s s' k k' once told short means taken read written usage refused read_fault write_fault = absurd (written (write_fault refl))
-
--- bytes with a meaning that the command doesn't take
-
-another_fault : (command : Command) (bytes : List ℕ) (input : Input) (f : DocFault) → ExactlyOne bytes → Means bytes input → HasFaultFor command bytes f → f ≡ fault.NotYet
-another_fault command bytes input fault.NotJson once means h = absurd (once.not_both input _ means h)
-another_fault command bytes input (fault.Field path) once means h = absurd (once.not_both input _ means h)
-another_fault command bytes input (fault.Limit which limit) once means h = absurd (once.not_both input _ means h)
-another_fault command bytes input (fault.Contract app text.OutOfMemory) once means h = absurd h
-another_fault command bytes input (fault.Contract app (text.Syntax at)) once means h = absurd (once.not_both input _ means h)
-another_fault command bytes input (fault.Contract app (text.UnknownName at)) once means h = absurd (once.not_both input _ means h)
-another_fault command bytes input (fault.Contract app (text.Kind at)) once means h = absurd (once.not_both input _ means h)
-another_fault command bytes input (fault.Contract app (text.Limit at)) once means h = absurd (once.not_both input _ means h)
-another_fault command bytes input (fault.Contract app (text.Double at)) once means h = absurd (once.not_both input _ means h)
-another_fault command bytes input (fault.Name path) once means h = absurd (once.not_both input _ means h)
-another_fault command bytes input (fault.Double path) once means h = absurd (once.not_both input _ means h)
-another_fault command bytes input fault.NotYet once means h = refl
-another_fault command bytes input fault.OutOfMemory once means h = absurd h
-
-not_yet : (command : Command) (bytes : List ℕ) (new : Option (List ℕ)) (input : Input) (f : DocFault) → ExactlyOne bytes → length bytes ≤ document_limit → Means bytes input → IsRefusal command (Some bytes) new f → f ≡ fault.NotYet
-not_yet command bytes new input f once short means (inl long) = absurd (omega (arith, no_more bytes long.1.0 new long.1.1, long.1.2))
-not_yet command bytes new input f once short means (inr is) =
-    another_fault command bytes input f once means (subst (λ (xs : List ℕ). HasFaultFor command xs f) (all_read bytes is.bytes new is.read.taken is.read.end) is.is)
-
--- what a document that is printed means is taken
-was_taken : (command : Command) (old new : Option (List ℕ)) (bytes lines : List ℕ) (input : Input) → ExactlyOne bytes → old ≡ Some bytes → Means bytes input → HasRead command old new lines → Takes command input
-was_taken command old new bytes lines input once told means read =
-    let same : read.bytes ≡ bytes = all_read bytes read.bytes new (subst (λ (o : Option (List ℕ)). Consumes o new read.bytes) told read.read.taken) read.read.end in
-    subst (λ (i : Input). Takes command i) (once.one_meaning read.input input (subst (λ (xs : List ℕ). Means xs read.input) same read.means) means) read.taken
-
-pub is_other : (command : Command) (result : Status) (old new written written_new : Option (List ℕ)) (bytes : List ℕ) (input : Input) (source source_new : ℕ)
-    → ExactlyOne bytes → old ≡ Some bytes → length bytes ≤ document_limit → Means bytes input → ¬ Takes command input
-    → ¬ Rose source source_new
-    → (result ≡ status.Ok → IsHeadline command old new written written_new)
-    → (result ≡ status.Usage → ⊥)
-    → ((f : DocFault) → result ≡ status.Refused f → IsRefusal command old new f)
-    → (result ≡ status.ReadFault → Rose source source_new)
-    → (result ≡ status.WriteFault → IsWrittenPart command old new written written_new)
-    → (result ≡ status.Refused fault.NotYet) ⊎ (result ≡ status.OutOfMemory)
-is_other command status.Ok old new w w' bytes input s s' once told short means other read ok usage refused read_fault part =
-    absurd (other (was_taken command old new bytes (ok refl).lines input once told means (ok refl).read))
-is_other command status.Usage old new w w' bytes input s s' once told short means other read ok usage refused read_fault part = absurd (usage refl)
-is_other command (status.Refused f) old new w w' bytes input s s' once told short means other read ok usage refused read_fault part =
-    inl (ap refused_for (not_yet command bytes new input f once short means (subst (λ (o : Option (List ℕ)). IsRefusal command o new f) told (refused f refl))))
-  where
-    refused_for : DocFault → Status
-    refused_for g = status.Refused g
-is_other command status.OutOfMemory old new w w' bytes input s s' once told short means other read ok usage refused read_fault part = inr refl
-is_other command status.ReadFault old new w w' bytes input s s' once told short means other read ok usage refused read_fault part = absurd (read (read_fault refl))
-is_other command status.WriteFault old new w w' bytes input s s' once told short means other read ok usage refused read_fault part =
-    absurd (other (was_taken command old new bytes (part refl).lines input once told means (part refl).read))
+is_answered status.Ok old new bytes input s s' k k' once told short means read written usage refused read_fault write_fault = inl refl
+is_answered status.Usage old new bytes input s s' k k' once told short means read written usage refused read_fault write_fault = absurd (usage refl)
+is_answered (status.Refused f) old new bytes input s s' k k' once told short means read written usage refused read_fault write_fault =
+    absurd (no_refusal bytes new input f once short means (subst (λ (o : Option (List ℕ)). IsRefusal o new f) told (refused f refl)))
+is_answered status.OutOfMemory old new bytes input s s' k k' once told short means read written usage refused read_fault write_fault = inr refl
+is_answered status.ReadFault old new bytes input s s' k k' once told short means read written usage refused read_fault write_fault = absurd (read (read_fault refl))
+is_answered status.WriteFault old new bytes input s s' k k' once told short means read written usage refused read_fault write_fault = absurd (written (write_fault refl))
 
 -- bytes with a fault
 
-the_fault : (command : Command) (bytes : List ℕ) (told : Fault) (f : DocFault) → ExactlyOne bytes → reading bytes ≡ Err told → HasFaultFor command bytes f → Fails f (refusal told)
-the_fault command bytes told fault.NotJson once is h = sym is ∙ h
-the_fault command bytes told (fault.Field path) once is h = sym is ∙ h
-the_fault command bytes told (fault.Limit which limit) once is h = sym is ∙ h
-the_fault command bytes told (fault.Contract app text.OutOfMemory) once is h = h
-the_fault command bytes told (fault.Contract app (text.Syntax at)) once is h = sym is ∙ h
-the_fault command bytes told (fault.Contract app (text.UnknownName at)) once is h = sym is ∙ h
-the_fault command bytes told (fault.Contract app (text.Kind at)) once is h = sym is ∙ h
-the_fault command bytes told (fault.Contract app (text.Limit at)) once is h = sym is ∙ h
-the_fault command bytes told (fault.Contract app (text.Double at)) once is h = sym is ∙ h
-the_fault command bytes told (fault.Name path) once is h = sym is ∙ h
-the_fault command bytes told (fault.Double path) once is h = sym is ∙ h
-the_fault command bytes told fault.NotYet once is h = absurd (once.not_both h.input told h.means is)
-the_fault command bytes told fault.OutOfMemory once is h = absurd h
+the_fault : (bytes : List ℕ) (told : Fault) (f : DocFault) → ExactlyOne bytes → reading bytes ≡ Err told → IsFaultOf bytes f → Fails f (refusal told)
+the_fault bytes told fault.NotJson once is h = sym is ∙ h
+the_fault bytes told (fault.Field path) once is h = sym is ∙ h
+the_fault bytes told (fault.Limit which limit) once is h = sym is ∙ h
+the_fault bytes told (fault.Contract app text.OutOfMemory) once is h = h
+the_fault bytes told (fault.Contract app (text.Syntax at)) once is h = sym is ∙ h
+the_fault bytes told (fault.Contract app (text.UnknownName at)) once is h = sym is ∙ h
+the_fault bytes told (fault.Contract app (text.Kind at)) once is h = sym is ∙ h
+the_fault bytes told (fault.Contract app (text.Limit at)) once is h = sym is ∙ h
+the_fault bytes told (fault.Contract app (text.Double at)) once is h = sym is ∙ h
+the_fault bytes told (fault.Name path) once is h = sym is ∙ h
+the_fault bytes told (fault.Double path) once is h = sym is ∙ h
+the_fault bytes told fault.OutOfMemory once is h = absurd h
 
-refused_so : (command : Command) (bytes : List ℕ) (new : Option (List ℕ)) (told : Fault) (f : DocFault) → ExactlyOne bytes → length bytes ≤ document_limit → reading bytes ≡ Err told → IsRefusal command (Some bytes) new f → Fails f (refusal told)
-refused_so command bytes new told f once short is (inl long) = absurd (omega (arith, no_more bytes long.1.0 new long.1.1, long.1.2))
-refused_so command bytes new told f once short is (inr at) =
-    the_fault command bytes told f once is (subst (λ (xs : List ℕ). HasFaultFor command xs f) (all_read bytes at.bytes new at.read.taken at.read.end) at.is)
+refused_so : (bytes : List ℕ) (new : Option (List ℕ)) (told : Fault) (f : DocFault) → ExactlyOne bytes → length bytes ≤ document_limit → reading bytes ≡ Err told → IsRefusal (Some bytes) new f → Fails f (refusal told)
+refused_so bytes new told f once short is (inl long) = absurd (omega (arith, no_more bytes long.1.0 new long.1.1, long.1.2))
+refused_so bytes new told f once short is (inr at) =
+    the_fault bytes told f once is (subst (λ (xs : List ℕ). IsFaultOf xs f) (all_read bytes at.bytes new at.read.taken at.read.end) at.is)
 
 -- a document that is printed has no fault
 was_faultless : (command : Command) (old new : Option (List ℕ)) (bytes lines : List ℕ) (told : Fault) → ExactlyOne bytes → old ≡ Some bytes → reading bytes ≡ Err told → HasRead command old new lines → ⊥
@@ -148,7 +94,7 @@ pub is_faulty : (command : Command) (result : Status) (old new written written_n
     → ¬ Rose source source_new
     → (result ≡ status.Ok → IsHeadline command old new written written_new)
     → (result ≡ status.Usage → ⊥)
-    → ((f : DocFault) → result ≡ status.Refused f → IsRefusal command old new f)
+    → ((f : DocFault) → result ≡ status.Refused f → IsRefusal old new f)
     → (result ≡ status.ReadFault → Rose source source_new)
     → (result ≡ status.WriteFault → IsWrittenPart command old new written written_new)
     → IsRefusedFor result told ⊎ (result ≡ status.OutOfMemory)
@@ -156,7 +102,7 @@ is_faulty command status.Ok old new w w' bytes told s s' once is short fault rea
     absurd (was_faultless command old new bytes (ok refl).lines told once is fault (ok refl).read)
 is_faulty command status.Usage old new w w' bytes told s s' once is short fault read ok usage refused read_fault part = absurd (usage refl)
 is_faulty command (status.Refused f) old new w w' bytes told s s' once is short fault read ok usage refused read_fault part =
-    inl (refused_so command bytes new told f once short fault (subst (λ (o : Option (List ℕ)). IsRefusal command o new f) is (refused f refl)))
+    inl (refused_so bytes new told f once short fault (subst (λ (o : Option (List ℕ)). IsRefusal o new f) is (refused f refl)))
 is_faulty command status.OutOfMemory old new w w' bytes told s s' once is short fault read ok usage refused read_fault part = inr refl
 is_faulty command status.ReadFault old new w w' bytes told s s' once is short fault read ok usage refused read_fault part = absurd (read (read_fault refl))
 is_faulty command status.WriteFault old new w w' bytes told s s' once is short fault read ok usage refused read_fault part =
@@ -170,16 +116,16 @@ was_short command old new bytes lines told long read =
     let same : read.bytes ≡ bytes = all_read bytes read.bytes new (subst (λ (o : Option (List ℕ)). Consumes o new read.bytes) told read.read.taken) read.read.end in
     omega (arith, read.read.short, ap length same, long)
 
-long_so : (command : Command) (bytes : List ℕ) (new : Option (List ℕ)) (f : DocFault) → document_limit < length bytes → IsRefusal command (Some bytes) new f → f ≡ too_long
-long_so command bytes new f long (inl is) = is.0
-long_so command bytes new f long (inr at) = absurd (omega (arith, at.read.short, ap length (all_read bytes at.bytes new at.read.taken at.read.end), long))
+long_so : (bytes : List ℕ) (new : Option (List ℕ)) (f : DocFault) → document_limit < length bytes → IsRefusal (Some bytes) new f → f ≡ too_long
+long_so bytes new f long (inl is) = is.0
+long_so bytes new f long (inr at) = absurd (omega (arith, at.read.short, ap length (all_read bytes at.bytes new at.read.taken at.read.end), long))
 
 pub is_long : (command : Command) (result : Status) (old new written written_new : Option (List ℕ)) (bytes : List ℕ) (source source_new : ℕ)
     → old ≡ Some bytes → document_limit < length bytes
     → ¬ Rose source source_new
     → (result ≡ status.Ok → IsHeadline command old new written written_new)
     → (result ≡ status.Usage → ⊥)
-    → ((f : DocFault) → result ≡ status.Refused f → IsRefusal command old new f)
+    → ((f : DocFault) → result ≡ status.Refused f → IsRefusal old new f)
     → (result ≡ status.ReadFault → Rose source source_new)
     → (result ≡ status.WriteFault → IsWrittenPart command old new written written_new)
     → (result ≡ status.Refused too_long) ⊎ (result ≡ status.OutOfMemory)
@@ -187,7 +133,7 @@ is_long command status.Ok old new w w' bytes s s' told long read ok usage refuse
     absurd (was_short command old new bytes (ok refl).lines told long (ok refl).read)
 is_long command status.Usage old new w w' bytes s s' told long read ok usage refused read_fault part = absurd (usage refl)
 is_long command (status.Refused f) old new w w' bytes s s' told long read ok usage refused read_fault part =
-    inl (ap refused_for (long_so command bytes new f long (subst (λ (o : Option (List ℕ)). IsRefusal command o new f) told (refused f refl))))
+    inl (ap refused_for (long_so bytes new f long (subst (λ (o : Option (List ℕ)). IsRefusal o new f) told (refused f refl))))
   where
     refused_for : DocFault → Status
     refused_for g = status.Refused g

@@ -3,6 +3,5 @@ pub mod LawfulBlocks
 pub mod WorldTextLemmas
 pub mod WorldLemmas
 pub mod TextLemmas
-pub mod DocumentLemmas
 pub mod Complete
 pub mod SerialHeadlines

@@ -1,6 +1,5 @@
--- The commands, and what each takes and prints.
+-- The commands, and what each prints.
 use Rattle.std.specs.Prelude.{◌≡◌, ℕ, Bool, List, ◌++◌}
-use Rattle.txn_types.specs.declared.txn.Kind.TheVariants.{Full}
 use Rattle.node_defs.specs.Text.{IsTextOf}
 use Rattle.node_defs.specs.GraphText.{IsGraphTextOf}
 use Rattle.text_laws.specs.SerialText as serial
@@ -10,14 +9,7 @@ use Rattle.par_words.specs.declared.command.Command.{Command}
 use Rattle.par_words.specs.declared.command.Command.TheVariants.{Run, Graph}
 use Rattle.par_top.specs.Traced.{IsTraceText}
 
--- WHAT A COMMAND TAKES
-
--- a run takes documents whose graphs are of kind full so far, and `graph` each document
-abbrev pub Takes : Command → Input → Type 0
-Takes (Run workers traced) input = input.table.kind ≡ Full
-Takes Graph input = Unit {0}
-
--- WHAT IT PRINTS
+-- WHAT A COMMAND PRINTS
 
 -- what `run` prints whatever its options: the text of the world of its events, over the chain of its agreed blocks
 abbrev pub IsWorldText : Input → List ℕ → Type 0

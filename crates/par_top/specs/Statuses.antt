@@ -111,7 +111,6 @@ fault_text (fault.Limit which limit) = codes "limit " ++ which_word which ++ cod
 fault_text (fault.Contract app f) = codes "contract " ++ decimal app ++ codes " " ++ text_fault_word f ++ codes " " ++ decimal (byte_of f)
 fault_text (fault.Name path) = codes "name " ++ path_text path
 fault_text (fault.Double path) = codes "double " ++ path_text path
-fault_text fault.NotYet = codes "not yet"
 fault_text fault.OutOfMemory = []
 
 -- the line on standard error

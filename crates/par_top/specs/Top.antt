@@ -10,13 +10,12 @@ use Rattle.doc_forms.specs.declared.fault.DocFault.TheVariants as fault
 use Rattle.doc_forms.specs.Faults.{Fault}
 use Rattle.doc_forms.specs.Check.{Fails}
 use Rattle.input_doc.specs.Inputs.{Input, IsLawfulInput}
-use Rattle.input_doc.specs.Means.{Means}
+use Rattle.input_doc.specs.Means.{Means, IsFaultOf}
 use Rattle.par_words.specs.Words.{Says}
 use Rattle.par_words.specs.declared.command.Command.{Command}
 use Rattle.par_top.specs.declared.status.Status.{Status}
 use Rattle.par_top.specs.declared.status.Status.TheVariants as status
-use Rattle.par_top.specs.Commands.{Takes, IsTextFor, IsTame, IsSerialText}
-use Rattle.par_top.specs.Faults.{HasFaultFor}
+use Rattle.par_top.specs.Commands.{IsTextFor, IsTame, IsSerialText}
 
 -- a document has at most 4 MiB
 abbrev pub document_limit : ℕ
@@ -31,14 +30,13 @@ pub record IsReadFault (faults_old faults_new : ℕ) (rest_old rest_new : Option
 abbrev pub refusal : Fault → Result Input Fault
 refusal fault = Err fault
 
--- the source was read to its end, and what it had means a lawful input that the command takes, with this text
+-- the source was read to its end, and what it had means a lawful input, with this text of the command
 pub record HasRead (command : Command) (rest_old rest_new : Option (List ℕ)) (lines : List ℕ) : Type 0 where
   pub bytes : List ℕ
   pub input : Input
   pub read : ReadWhole rest_old rest_new document_limit bytes
   pub means : Means bytes input
   pub lawful : IsLawfulInput input
-  pub taken : Takes command input
   pub text : IsTextFor command input lines
 
 -- the same, and its whole text was written
@@ -59,17 +57,17 @@ pub record IsSerialHeadline (traced : Bool) (rest_old rest_new written_old writt
   pub untraced : traced ≡ false → trace ≡ []
   pub serial : IsTame input → IsSerialText input text
 
--- the source was read to its end, and what it had means an input that the command takes, and a part from the front of its text was written
+-- the source was read to its end, and what it had means an input, and a part from the front of its text was written
 pub record IsWrittenPart (command : Command) (rest_old rest_new written_old written_new : Option (List ℕ)) : Type 0 where
   pub lines : List ℕ
   pub read : HasRead command rest_old rest_new lines
   pub written : AppendsFront written_old written_new lines
 
 -- the source was read to its end, and what it had has this fault
-pub record IsFault (command : Command) (rest_old rest_new : Option (List ℕ)) (fault : DocFault) : Type 0 where
+pub record IsFault (rest_old rest_new : Option (List ℕ)) (fault : DocFault) : Type 0 where
   pub bytes : List ℕ
   pub read : ReadWhole rest_old rest_new document_limit bytes
-  pub is : HasFaultFor command bytes fault
+  pub is : IsFaultOf bytes fault
 
 -- the fault of a document with more bytes than that
 abbrev pub too_long : DocFault
@@ -80,8 +78,8 @@ abbrev pub IsTooLong : Option (List ℕ) → Option (List ℕ) → DocFault → 
 IsTooLong rest_old rest_new f = (f ≡ too_long) × ReadTooMuch rest_old rest_new document_limit
 
 -- why a document is refused: the source gave more than the limit, or what it had has this fault
-abbrev pub IsRefusal : Command → Option (List ℕ) → Option (List ℕ) → DocFault → Type 0
-IsRefusal command rest_old rest_new f = IsTooLong rest_old rest_new f ⊎ IsFault command rest_old rest_new f
+abbrev pub IsRefusal : Option (List ℕ) → Option (List ℕ) → DocFault → Type 0
+IsRefusal rest_old rest_new f = IsTooLong rest_old rest_new f ⊎ IsFault rest_old rest_new f
 
 -- the status refuses for this fault of a document
 abbrev pub IsRefusedFor : Status → Fault → Type 0

@@ -2,7 +2,6 @@
 #![tactic(auto)]
 
 mod agreed;
-mod document;
 mod graphs;
 mod paths;
 mod status;

@@ -144,7 +144,6 @@ fn push_fault(text: &mut Text, fault: &DocFault) -> Result<(), OutOfMemory>
         DocFault::Contract { app, fault } => push_contract(text, *app, *fault),
         DocFault::Name { path } => push_placed(text, b"name ", path),
         DocFault::Double { path } => push_placed(text, b"double ", path),
-        DocFault::NotYet => text.append(b"not yet"),
         DocFault::OutOfMemory => Ok(()),
     }
 }

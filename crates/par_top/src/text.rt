@@ -2,7 +2,6 @@
 
 ghost use Rattle.std.specs.Prelude.{◌≡◌, ◌≤◌, IfOk};
 ghost use Rattle.std.specs.List.{All};
-ghost use Rattle.txn_types.specs.declared.txn.Kind.TheVariants.{Full};
 ghost use Rattle.oxii_defs.specs.Chain.{IsLawfulBlock};
 ghost use Rattle.node_defs.specs.Admission.{pieces_of};
 ghost use Rattle.txn_core.specs.MeantTable.{table_of};
@@ -12,7 +11,7 @@ ghost use Rattle.par_top.specs.AgreedBlocks.{AreAgreedBlocks};
 ghost use Rattle.input_doc.specs.Inputs.{IsLawfulInput};
 ghost use Rattle.input_doc.specs.Held.{input_of};
 ghost use Rattle.par_words.specs.Words.{HasWorkers};
-ghost use Rattle.par_top.specs.Commands.{Takes, IsRunText, IsGraphText, IsTextFor};
+ghost use Rattle.par_top.specs.Commands.{IsRunText, IsGraphText, IsTextFor};
 
 use crate::Gate;
 use crate::agreed::{Agreed, agree};
@@ -35,7 +34,6 @@ fn play<'t, R: Threads + Sync, G: Gate>(
     gate: &G,
 ) -> Result<World<'t>, OutOfMemory>
     requires lawful { IsLawfulInput (input_of input.now) }
-    requires full { input.now.table.kind ≡ Full }
     requires workers { (1 ≤ workers) × (workers ≤ 16) }
     requires agreed { AreAgreedBlocks (table_of input.now.table) input.now.limits input.now.items agreed.now.blocks }
     requires blocks { All (IsLawfulBlock (table_of input.now.table)) agreed.now.blocks }
@@ -66,7 +64,6 @@ fn run_text<R: Threads + Sync, G: Gate>(
     gate: &G,
 ) -> Result<Text, OutOfMemory>
     requires lawful { IsLawfulInput (input_of input.now) }
-    requires full { input.now.table.kind ≡ Full }
     requires workers { (1 ≤ workers) × (workers ≤ 16) }
     ensures text { IfOk result (IsRunText workers trace (input_of input.now)) }
 {
@@ -89,7 +86,7 @@ pub fn graph_report(alloc: Global, input: &Input) -> Result<Text, OutOfMemory>
     Ok(text)
 }
 
-/// What a command prints of a document that it takes.
+/// What a command prints of a document.
 pub fn text_for<R: Threads + Sync, G: Gate>(
     rt: &R,
     alloc: Global,
@@ -98,7 +95,6 @@ pub fn text_for<R: Threads + Sync, G: Gate>(
     gate: &G,
 ) -> Result<Text, OutOfMemory>
     requires lawful { IsLawfulInput (input_of input.now) }
-    requires taken { Takes command (input_of input.now) }
     requires workers { HasWorkers command }
     ensures text { IfOk result (IsTextFor command (input_of input.now)) }
 {

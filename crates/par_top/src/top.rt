@@ -7,13 +7,12 @@ ghost use Rattle.doc_forms.specs.Faults.{Fault};
 ghost use Rattle.input_doc.specs.Means.{Means, HasFault};
 ghost use Rattle.par_words.specs.declared.command.Command.TheVariants.{Run};
 ghost use Rattle.par_words.specs.Words.{Says, IsCommand, HasWorkers};
-ghost use Rattle.par_top.specs.Commands.{Takes};
 ghost use Rattle.par_top.specs.Statuses.{CanSay};
 ghost use Rattle.par_top.specs.Top.{OfCommand, IsHeadline, IsReadFault, IsSerialHeadline, IsWrittenPart, IsRefusal, IsRefusedFor, document_limit, too_long};
 
-use crate::document::document_for;
 use crate::text::text_for;
 use crate::{DocFault, Gate, Status, Which};
+use input_doc::read_input;
 use par_io::{ReadFail, Sink, Source, read_all, write_all};
 use par_words::{Command, command_of};
 use std::alloc::Global;
@@ -33,7 +32,7 @@ fn run_command<R: Threads + Sync, S: Source, K: Sink, G: Gate>(
     requires workers { HasWorkers command }
     ensures ok { result ≡ Status.Ok → IsHeadline command (S.rest source.old) (S.rest source.new) (K.written sink.old) (K.written sink.new) }
     ensures not_usage { result ≡ Status.Usage → ⊥ }
-    ensures refused { (fault : DocFault) → result ≡ Status.Refused fault → IsRefusal command (S.rest source.old) (S.rest source.new) fault }
+    ensures refused { (fault : DocFault) → result ≡ Status.Refused fault → IsRefusal (S.rest source.old) (S.rest source.new) fault }
     ensures read_fault { result ≡ Status.ReadFault → IsReadFault (S.faults source.old) (S.faults source.new) (S.rest source.old) (S.rest source.new) }
     ensures write_fault { result ≡ Status.WriteFault → Rose (K.faults sink.old) (K.faults sink.new) }
     ensures part { result ≡ Status.WriteFault → IsWrittenPart command (S.rest source.old) (S.rest source.new) (K.written sink.old) (K.written sink.new) }
@@ -51,7 +50,7 @@ fn run_command<R: Threads + Sync, S: Source, K: Sink, G: Gate>(
         }
         Err(ReadFail::OutOfMemory) => return Status::OutOfMemory,
     };
-    let input = match document_for(alloc, command, bytes.as_slice()) {
+    let input = match read_input(alloc, bytes.as_slice()) {
         Ok(input) => input,
         Err(DocFault::OutOfMemory) => return Status::OutOfMemory,
         Err(fault) => return Status::Refused(fault),
@@ -86,7 +85,7 @@ pub fn run<R: Threads + Sync, S: Source, K: Sink, G: Gate>(
 
     // A refusal has its cause in what was read, and a fault in the object that failed; before a read fault came no more bytes than a document has. Want of memory is no refusal.
     ensures sayable { CanSay result }
-    ensures refused { (fault : DocFault) → result ≡ Status.Refused fault → OfCommand (map string_bytes words.now) (λ command. IsRefusal command (S.rest source.old) (S.rest source.new) fault) }
+    ensures refused { (fault : DocFault) → result ≡ Status.Refused fault → IsCommand (map string_bytes words.now) × IsRefusal (S.rest source.old) (S.rest source.new) fault }
     ensures read_fault { result ≡ Status.ReadFault → IsReadFault (S.faults source.old) (S.faults source.new) (S.rest source.old) (S.rest source.new) }
     ensures write_fault { result ≡ Status.WriteFault → Rose (K.faults sink.old) (K.faults sink.new) }
 
@@ -94,15 +93,12 @@ pub fn run<R: Threads + Sync, S: Source, K: Sink, G: Gate>(
     ensures part { result ≡ Status.WriteFault → OfCommand (map string_bytes words.now) (λ command. IsWrittenPart command (S.rest source.old) (S.rest source.new) (K.written sink.old) (K.written sink.new)) }
     ensures nothing { (result ≡ Status.Ok) ⊎ ((result ≡ Status.WriteFault) ⊎ (sink.new ≡ sink.old)) }
 
-    // A document that the command takes is answered, unless memory is wanted or a fault was counted.
-    ensures complete { (command : Command) (bytes : List ℕ) (input : Input) → Says (map string_bytes words.now) command → S.rest source.old ≡ Some bytes → length bytes ≤ document_limit → Means bytes input → Takes command input
+    // A document that has a meaning is answered, unless memory is wanted or a fault was counted.
+    ensures complete { (command : Command) (bytes : List ℕ) (input : Input) → Says (map string_bytes words.now) command → S.rest source.old ≡ Some bytes → length bytes ≤ document_limit → Means bytes input
         → ¬ Rose (S.faults source.old) (S.faults source.new) → ¬ Rose (K.faults sink.old) (K.faults sink.new)
         → (result ≡ Status.Ok) ⊎ (result ≡ Status.OutOfMemory) }
 
-    // One that has a meaning and isn't taken so far, and one that has a fault, are refused for that, unless memory is wanted or a fault was counted.
-    ensures other { (command : Command) (bytes : List ℕ) (input : Input) → Says (map string_bytes words.now) command → S.rest source.old ≡ Some bytes → length bytes ≤ document_limit → Means bytes input → ¬ Takes command input
-        → ¬ Rose (S.faults source.old) (S.faults source.new)
-        → (result ≡ Status.Refused DocFault.NotYet) ⊎ (result ≡ Status.OutOfMemory) }
+    // One that has a fault is refused for it, unless memory is wanted or a fault was counted.
     ensures faulty { (command : Command) (bytes : List ℕ) (fault : Fault) → Says (map string_bytes words.now) command → S.rest source.old ≡ Some bytes → length bytes ≤ document_limit → HasFault bytes fault
         → ¬ Rose (S.faults source.old) (S.faults source.new)
         → IsRefusedFor result fault ⊎ (result ≡ Status.OutOfMemory) }

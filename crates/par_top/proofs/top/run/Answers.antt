@@ -2,24 +2,16 @@ use Rattle.std.proofs.Common.{subst, sym}
 use Rattle.input_doc.proofs.Once.{exactly_one}
 use Rattle.par_words.specs.declared.command.Command.{Command}
 use Rattle.par_words.specs.declared.command.Command.TheVariants.{Run}
-use Rattle.par_top.specs.Commands.{Takes}
 use Rattle.par_top.specs.Top.{IsHeadline}
 use Rattle.par_top.proofs.SerialHeadlines.{serial_headline}
-use Rattle.par_top.proofs.Complete.{is_answered, is_other, is_faulty, is_long}
+use Rattle.par_top.proofs.Complete.{is_answered, is_faulty, is_long}
 use Rattle.par_words.proofs.Commands.{one_command}
 use Rattle.par_top.proofs.top.run.Goals as goal
 
 pub returns-in-Ok-Some-clause-complete : goal.returns-in-Ok-Some-clause-complete
-returns-in-Ok-Some-clause-complete g c command bytes input says told short means taken read written =
-    is_answered c.in-Ok-Some.command c.run_command.result _ _ bytes input _ _ _ _ exactly_one told short means
-    (subst (λ (k : Command). Takes k input) (one_command _ command c.in-Ok-Some.command says c.in-Ok-Some.ensures) taken) read written
+returns-in-Ok-Some-clause-complete g c command bytes input says told short means read written =
+    is_answered c.run_command.result _ _ bytes input _ _ _ _ exactly_one told short means read written
     c.run_command.ensures.not_usage c.run_command.ensures.refused (λ e. (c.run_command.ensures.read_fault e).rose) c.run_command.ensures.write_fault
-
-pub returns-in-Ok-Some-clause-other : goal.returns-in-Ok-Some-clause-other
-returns-in-Ok-Some-clause-other g c command bytes input says told short means other read =
-    is_other c.in-Ok-Some.command c.run_command.result _ _ _ _ bytes input _ _ (exactly_one bytes) told short means
-    (λ taken. other (subst (λ (k : Command). Takes k input) (sym (one_command _ command c.in-Ok-Some.command says c.in-Ok-Some.ensures)) taken)) read
-    c.run_command.ensures.ok c.run_command.ensures.not_usage c.run_command.ensures.refused (λ e. (c.run_command.ensures.read_fault e).rose) c.run_command.ensures.part
 
 pub returns-in-Ok-Some-clause-faulty : goal.returns-in-Ok-Some-clause-faulty
 returns-in-Ok-Some-clause-faulty g c command bytes fault says told short is read =
