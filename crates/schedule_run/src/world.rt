@@ -1,13 +1,11 @@
 //! The world, moved by events.
 
-ghost use Rattle.std.specs.Prelude.{ℕ, ◌≡◌, ◌<◌, ◌≤◌, ◌↔◌, ◌^◌, ◌+◌, List, [], ◌∷◌, length, true, is_some, count_by, sum_by, get_or, None, IfOk, IfSome, IsNone};
+ghost use Rattle.std.specs.Prelude.{ℕ, ◌≡◌, ◌<◌, ◌≤◌, ◌↔◌, List, [], ◌∷◌, length, true, is_some, count_by, sum_by, get_or, None, IfOk, IfSome, IsNone};
 ghost use Rattle.std.specs.List.{All};
 ghost use Rattle.oxii_defs.specs.State.{State};
 ghost use Rattle.oxii_defs.specs.Chain.{IsLawfulBlock};
-ghost use Rattle.oxii_defs.specs.Lawful.{IsLawfulBody, IsLawfulTable};
-ghost use Rattle.txn_types.specs.Values.{max_false};
+ghost use Rattle.oxii_defs.specs.Lawful.{IsLawfulTable};
 ghost use Rattle.txn_types.specs.declared.event.Event as happening;
-ghost use Rattle.txn_types.specs.declared.event.Event.TheVariants as event;
 ghost use Rattle.txn_types.specs.declared.message.Node.TheVariants as node;
 ghost use Rattle.txn_core.specs.MeantTable.{table_of};
 ghost use Rattle.txn_core.specs.States.{state_of};
@@ -15,42 +13,28 @@ ghost use Rattle.node_defs.specs.Admission.{AreLawfulPieces};
 ghost use Rattle.node_defs.specs.World as world;
 ghost use Rattle.node_defs.specs.World.{IsWorld, Setting, log_of, start};
 ghost use Rattle.node_laws.specs.Named.{is_named};
-ghost use Rattle.node_laws.specs.OneWorld.{txns_carried_by};
-ghost use Rattle.peer_turns.specs.Peers.{IsLawfulMessage};
 ghost use Rattle.world_laws.specs.Deliveries.{AreBursts, AreDeliveries, Delivery};
-ghost use Rattle.world_laws.specs.Sayings.{config_named, txns_named};
 ghost use Rattle.world_laws.specs.Shown.{IsPeerFor};
-ghost use Rattle.world_laws.specs.Worlds.{CanTake, Follows, HasBursts, IsWorldOf, peer_in, setting_with, with_said};
+ghost use Rattle.world_laws.specs.Worlds.{CanTake, Follows, HasBursts, IsWorldOf, peer_in, setting_with};
 
-use crate::each::{give_all, give_one};
-use crate::letter::Letter;
-use crate::sayings::{block_with, newblock_with};
-use crate::start::{Hashes, copy_pieces, first_pool, hashes_of, new_slots};
+use crate::basis::Basis;
+use crate::moving::{happen, play};
+use crate::scene::Scene;
+use crate::start::{copy_pieces, first_pool, hashes_of, new_slots};
 use peer_core::Peer;
 use std::alloc::Global;
 use std::marker::Model;
 use std::thread::Threads;
 use steal_pool::Gate;
 use txn_core::Table;
-use txn_types::{
-    Admitted, Blocks, Commit, Copies, Event, GrowingList, Items, Message, Node, NodeSet,
-    OutOfMemory, Preds, Values,
-};
+use txn_types::{Admitted, Blocks, Copies, Event, NodeSet, OutOfMemory, Values};
 use world_laws::Bursts;
 
 /// A pool of messages and the peers, as what they make of the events of a schedule.
 #[derive(Drop)]
 pub struct World<'t> {
-    table: &'t Table,
-    hashes: Hashes,
-    pieces: Admitted,
-    faulty: NodeSet,
-    pool: GrowingList<Letter>,
-    idle: u32,
-    falses: u32,
-    items: u32,
-    peers: Vec<Option<Peer<'t>>>,
-    bursts: Bursts,
+    basis: Basis<'t>,
+    scene: Scene<'t>,
 }
 
 impl<'t> Model for World<'t> {
@@ -59,14 +43,15 @@ impl<'t> Model for World<'t> {
     ghost use Rattle.txn_core.specs.contracts.syntax.Cond as cond;
     ghost use Rattle.txn_core.specs.contracts.syntax.Stmt as stmt;
     ghost use Rattle.world_laws.specs.Worlds.{KeptWorld, IsWellKept};
+    ghost use Rattle.schedule_run.specs.Scenes.{world_of};
 
     ghost Value = { KeptWorld };
 
     ghost coded = { Prim.hlevel (codes, expr.the_row.coded, cond.the_row.coded, stmt.the_row.coded) };
 
-    ghost view = { λ w. record { table = w.table.now; hashes = w.hashes; pieces = w.pieces; faulty = w.faulty; pool = w.pool; idle = w.idle; falses = w.falses; items = w.items; peers = w.peers.items; bursts = w.bursts } };
+    ghost view = { λ w. world_of w.basis w.scene };
 
-    ghost invariant = { λ w. IsWellKept (record { table = w.table.now; hashes = w.hashes; pieces = w.pieces; faulty = w.faulty; pool = w.pool; idle = w.idle; falses = w.falses; items = w.items; peers = w.peers.items; bursts = w.bursts }) };
+    ghost invariant = { λ w. IsWellKept (world_of w.basis w.scene) };
 }
 
 impl<'t> World<'t> {
@@ -94,186 +79,21 @@ impl<'t> World<'t> {
         let pieces = copy_pieces(alloc, admitted)?;
         let pool = first_pool(alloc, table, faulty, blocks)?;
         let peers = new_slots(alloc, table, faulty, genesis)?;
-        Ok(World {
+        let basis = Basis {
             table,
             hashes,
             pieces,
             faulty: faulty.copy(),
+        };
+        let scene = Scene {
             pool,
             idle: 0,
             falses: 0,
             items: 0,
             peers,
             bursts: Bursts::new(alloc),
-        })
-    }
-
-    /// Each message comes to each peer that isn't faulty.
-    fn all<R: Threads + Sync, G: Gate>(
-        self,
-        rt: &R,
-        alloc: Global,
-        workers: u8,
-        gate: &G,
-    ) -> Result<World<'t>, OutOfMemory>
-        requires workers { (1 ≤ workers) × (workers ≤ 16) }
-        ensures follows { IfOk result (λ r. Follows workers self.entry (event.All ∷ []) r) }
-    {
-        let World {
-            table,
-            hashes,
-            pieces,
-            faulty,
-            mut pool,
-            idle,
-            falses,
-            items,
-            mut peers,
-            mut bursts,
-        } = self;
-        give_all(
-            rt,
-            alloc,
-            table,
-            peers.as_mut_slice(),
-            &mut pool,
-            &mut bursts,
-            workers,
-            gate,
-        )?;
-        Ok(World {
-            table,
-            hashes,
-            pieces,
-            faulty,
-            pool,
-            idle,
-            falses,
-            items,
-            peers,
-            bursts,
-        })
-    }
-
-    /// Message `msg`, from 1, comes to peer `to`.
-    fn deliver<R: Threads + Sync, G: Gate>(
-        self,
-        rt: &R,
-        alloc: Global,
-        msg: u32,
-        to: u8,
-        workers: u8,
-        gate: &G,
-    ) -> Result<World<'t>, OutOfMemory>
-        requires to { to < length self.table.peers }
-        requires idle { self.idle + 1 < 2 ^ 32 }
-        requires workers { (1 ≤ workers) × (workers ≤ 16) }
-        ensures follows { IfOk result (λ r. Follows workers self.entry (event.Deliver msg to ∷ []) r) }
-    {
-        let World {
-            table,
-            hashes,
-            pieces,
-            faulty,
-            mut pool,
-            idle,
-            falses,
-            items,
-            mut peers,
-            mut bursts,
-        } = self;
-        let idly = give_one(
-            rt,
-            alloc,
-            table,
-            peers.as_mut_slice(),
-            &mut pool,
-            &mut bursts,
-            msg,
-            to,
-            workers,
-            gate,
-        )?;
-        let idle = if idly { idle + 1 } else { idle };
-        Ok(World {
-            table,
-            hashes,
-            pieces,
-            faulty,
-            pool,
-            idle,
-            falses,
-            items,
-            peers,
-            bursts,
-        })
-    }
-
-    /// A node sends a message, which names so many items.
-    fn said(self, from: Node, message: Message, named: u32) -> Result<World<'t>, OutOfMemory>
-        requires lawful { IsLawfulMessage (table_of self.table) message }
-        requires carried { txns_carried_by message ≤ named }
-        requires falses { self.falses + 1 ≤ max_false }
-        requires items { self.items + named ≤ 16384 }
-        ensures said { IfOk result (λ r. r ≡ with_said self.entry from message named) }
-    {
-        let World {
-            table,
-            hashes,
-            pieces,
-            faulty,
-            mut pool,
-            idle,
-            falses,
-            items,
-            peers,
-            bursts,
-        } = self;
-        pool.push(Letter::new(from, message))?;
-        Ok(World {
-            table,
-            hashes,
-            pieces,
-            faulty,
-            pool,
-            idle,
-            falses: falses + 1,
-            items: items + named,
-            peers,
-            bursts,
-        })
-    }
-
-    /// A node says a block of items of the stream.
-    fn say_block(
-        self,
-        alloc: Global,
-        from: Node,
-        number: u64,
-        prev: Option<[u8; 32]>,
-        items: &Items,
-        preds: Option<Preds>,
-    ) -> Result<World<'t>, OutOfMemory>
-        requires body { IsLawfulBody (table_of self.table) (txns_named self.pieces items.now) (config_named self.pieces items.now) }
-        requires falses { self.falses + 1 ≤ max_false }
-        requires items { self.items + length items.now ≤ 16384 }
-        ensures follows { IfOk result (λ r. (workers : ℕ) → Follows workers self.entry (event.SayBlock from number prev items.now preds ∷ []) r) }
-    {
-        let table = self.table;
-        let block = block_with(alloc, &self.hashes, &self.pieces, number, prev, items)?;
-        let message = newblock_with(alloc, table, block, preds)?;
-        let world = self.said(from, message, items.len() as u32)?;
-        Ok(world)
-    }
-
-    /// A node says results.
-    fn say_commit(self, from: Node, commit: Commit) -> Result<World<'t>, OutOfMemory>
-        requires falses { self.falses + 1 ≤ max_false }
-        requires items { self.items ≤ 16384 }
-        ensures follows { IfOk result (λ r. (workers : ℕ) → Follows workers self.entry (event.SayCommit from commit ∷ []) r) }
-    {
-        let world = self.said(from, Message::Commit(commit), 0)?;
-        Ok(world)
+        };
+        Ok(World { basis, scene })
     }
 
     /// Does one event. After OutOfMemory the world is gone.
@@ -289,32 +109,9 @@ impl<'t> World<'t> {
         requires workers { (1 ≤ workers) × (workers ≤ 16) }
         ensures follows { IfOk result (λ r. Follows workers self.entry (event.now ∷ []) r) }
     {
-        match event {
-            Event::Deliver { msg, to } => {
-                let world = self.deliver(rt, alloc, *msg, *to, workers, gate)?;
-                Ok(world)
-            }
-            Event::All => {
-                let world = self.all(rt, alloc, workers, gate)?;
-                Ok(world)
-            }
-            Event::SayBlock {
-                from,
-                number,
-                prev,
-                items,
-                preds,
-            } => {
-                let preds = preds.copy(alloc)?;
-                let world = self.say_block(alloc, *from, *number, *prev, items, preds)?;
-                Ok(world)
-            }
-            Event::SayCommit { from, commit } => {
-                let commit = commit.copy(alloc)?;
-                let world = self.say_commit(*from, commit)?;
-                Ok(world)
-            }
-        }
+        let World { basis, mut scene } = self;
+        happen(rt, alloc, &basis, &mut scene, event, workers, gate)?;
+        Ok(World { basis, scene })
     }
 
     /// Does the events in their order. After OutOfMemory the world is gone.
@@ -330,11 +127,9 @@ impl<'t> World<'t> {
         requires workers { (1 ≤ workers) × (workers ≤ 16) }
         ensures follows { IfOk result (λ r. Follows workers self.entry events.now r) }
     {
-        let mut world = self;
-        for event in events {
-            world = world.step(rt, alloc, event, workers, gate)?;
-        }
-        Ok(world)
+        let World { basis, mut scene } = self;
+        play(rt, alloc, &basis, &mut scene, events, workers, gate)?;
+        Ok(World { basis, scene })
     }
 
     /// Peer `i`, unless it is faulty.
@@ -345,7 +140,7 @@ impl<'t> World<'t> {
         ensures kept { peer_in result ≡ get_or self.now.peers i None }
         ensures stands { (genesis : State) (s : Setting) (events : List happening.Event) → IsWorldOf self.now genesis s events → (v : world.World) × IsWorld s events v × IsPeerFor self.now.table genesis s i (log_of v i) (peer_in result) }
     {
-        self.peers[i as usize].as_ref()
+        self.scene.peers[i as usize].as_ref()
     }
 
     /// How many messages were sent so far.
@@ -353,7 +148,7 @@ impl<'t> World<'t> {
         ensures kept { result ≡ length self.now.pool }
         ensures stands { (genesis : State) (s : Setting) (events : List happening.Event) → IsWorldOf self.now genesis s events → (v : world.World) × IsWorld s events v × (result ≡ length v.pool) }
     {
-        self.pool.len() as u32
+        self.scene.pool.len() as u32
     }
 
     /// How many deliveries were idle.
@@ -361,7 +156,7 @@ impl<'t> World<'t> {
         ensures kept { result ≡ self.now.idle }
         ensures stands { (genesis : State) (s : Setting) (events : List happening.Event) → IsWorldOf self.now genesis s events → (v : world.World) × IsWorld s events v × (result ≡ v.idle) }
     {
-        self.idle
+        self.scene.idle
     }
 
     /// What ran with the deliveries so far: for each delivery, in order, each block of which transactions ran.
@@ -369,7 +164,7 @@ impl<'t> World<'t> {
         ensures kept { result.now ≡ self.now.bursts }
         ensures stands { (n : ℕ) (s : Setting) (events : List happening.Event) → HasBursts n self.now s events → (deliveries : List Delivery) × AreDeliveries s (start s) events deliveries × AreBursts s n deliveries result.now }
     {
-        &self.bursts
+        &self.scene.bursts
     }
 
     /// The table.
@@ -377,6 +172,6 @@ impl<'t> World<'t> {
         ensures kept { result.now ≡ self.now.table }
         ensures lawful { IsLawfulTable (table_of self.now.table) }
     {
-        self.table
+        self.basis.table
     }
 }
