@@ -3,7 +3,7 @@
 
 ghost use Rattle.script_laws.specs.Laws.{ScriptsAreSound, TracesAreLawful};
 
-/// The rule of a board can stand over the script of a plan of kind full.
+/// The rule of a board can stand over the script of a plan, of kind full where the words keep values.
 pub fn scripts_are_sound()
     ensures { ScriptsAreSound }
 {}
