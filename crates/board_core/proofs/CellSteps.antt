@@ -82,18 +82,25 @@ pub loads_value : (p : Script) (slots id : ℕ) (me : Me ℕ View) (t r : ℕ) �
 loads_value p slots id me t r live begun unfinished unwritten uses s h homes at fits =
     (me.0, keeps, tt, loads_nothing p s id (value_place r) me.0 h at, (refl, finds_serial p s id me.0 t r h at begun unfinished unwritten uses))
 
+-- what is finished has published each of its words
+pub finished_word : (p : Script) (s : State ℕ View) (t k : ℕ) → Holds p s → 0 < total (λ u. times_first t u.finishes) s.views → k < p.parts t → part s.words t k ≡ p.meant t k
+finished_word p s t k h done lk =
+    let taken = total_some (λ u. times_first t u.finishes) (λ u. times t u.taken) s.views (λ i u e pos. let b = (h.each i u e).stamps in let d = b.finished_is_begun t in let f = b.begun_is_taken t in omega arith) done in
+    let own = (h.counters.ready_has_no_need t (omega arith)).0 in
+    let put = total_some (λ u. times_first t u.finishes) (λ u. times_pair t k u.published) s.views (λ i u e pos. (h.each i u e).cells.finished_is_published t pos k lk) done in
+    ⊎_elim (λ z. let b = z.0 in absurd (omega arith)) (λ z. z.1) (h.cells.published_as_meant t k own lk)
+
+-- what a taken position waited for is finished
+pub waited_finished : (p : Script) (s : State ℕ View) (x t : ℕ) → Holds p s → 0 < total (λ u. times t u.taken) s.views → 0 < p.edge x t → 0 < total (λ u. times_first x u.finishes) s.views
+waited_finished p s x t h taken edge =
+    let now = h.counters.ready_has_no_need t (omega arith) in let lx = (h.sound.edge_is_forward x t edge).0 in let lt = h.sound.own_is_below t now.0 in
+    let c = all_counted p (need s.words) (turn s.words) (counters_of s.views) x t h.counters now.0 (omega arith) now.1 in
+    total_some (λ u. times_pair x t u.counted) (λ u. times_first x u.finishes) s.views (λ i u e pos. (h.each i u e).stamps.counted_is_finished x t pos) (omega arith)
+
 -- what began finds each word that is set at the start, and each word of a position that it waited for
 finds_part : (p : Script) (s : State ℕ View) (id : ℕ) (v : View) (x t k : ℕ) → Holds p s → get_elem? s.views id ≡ some v → 0 < times_first t v.begins → k < p.parts x → (p.fixed x k ≡ true) ⊎ (0 < p.edge x t) → part s.words x k ≡ p.meant x k
 finds_part p s id v x t k h at begun lk why = ⊎_elim (λ fixed. h.fixed x k fixed)
-    (λ edge.
-    let a = (h.each id v at).stamps.begun_is_taken t in let all = total_at (λ u. times t u.taken) s.views id v at in let now = h.counters.ready_has_no_need t (omega arith) in
-    let lx = (h.sound.edge_is_forward x t edge).0 in let lt = h.sound.own_is_below t now.0 in
-    let c = all_counted p (need s.words) (turn s.words) (counters_of s.views) x t h.counters now.0 (omega arith) now.1 in
-    let done = total_some (λ u. times_pair x t u.counted) (λ u. times_first x u.finishes) s.views (λ i u e pos. (h.each i u e).stamps.counted_is_finished x t pos) (omega arith) in
-    let taken = total_some (λ u. times_first x u.finishes) (λ u. times x u.taken) s.views (λ i u e pos. let b = (h.each i u e).stamps in let d = b.finished_is_begun x in let f = b.begun_is_taken x in omega arith) done in
-    let own = (h.counters.ready_has_no_need x (omega arith)).0 in
-    let put = total_some (λ u. times_first x u.finishes) (λ u. times_pair x k u.published) s.views (λ i u e pos. (h.each i u e).cells.finished_is_published x pos k lk) done in
-    ⊎_elim (λ z. let b = z.0 in absurd (omega arith)) (λ z. z.1) (h.cells.published_as_meant x k own lk))
+    (λ edge. let a = (h.each id v at).stamps.begun_is_taken t in let all = total_at (λ u. times t u.taken) s.views id v at in finished_word p s x k h (waited_finished p s x t h (omega arith) edge) lk)
     why
 
 -- LoadPart

@@ -1,4 +1,4 @@
-//! The rows of boards, with ample memory.
+//! The rows of what several passes run a plan on, with ample memory.
 
 mod calls;
 mod rows;
@@ -7,14 +7,15 @@ mod task;
 mod threads;
 
 use board_work::{Ran, Span};
-use calls::Want;
+use calls::{Want, written};
 use ready_board::Board;
-use rows::{anti_dependency, relay};
+use rows::{anti_dependency, beside, relay, writers};
 use settings::{Setting, set_up};
 use std::process::Abort;
 use std::test::Fail;
 use threads::in_two_threads;
 use txn_types::Outcome;
+use version_slots::Slots;
 
 // Left and right copy a to b to c to d in turn.
 const RELAY: &str = r#"{"version":1,"kind":"full","cut":{"txns":256,"bytes":1048576},
@@ -37,21 +38,41 @@ const ANTI_DEPENDENCY: &str = r#"{"version":1,"kind":"full","cut":{"txns":256,"b
   {"client":"c1","app":"k","op":"set","args":["a",5],"reads":[],"writes":["a"]}],
  "faulty":[],"schedule":[{"do":"all"}]}"#;
 
+// The same, where a writer doesn't wait for a reader.
+const RAW_ANTI_DEPENDENCY: &str = r#"{"version":1,"kind":"raw","cut":{"txns":256,"bytes":1048576},
+ "records":[["a",1],["c",0]],"orderers":["o1"],"quorum":1,"peers":["p1"],
+ "apps":[{"name":"k","agents":["p1"],"tau":1,"clients":["c1"],
+   "contract":"op set(r:record,n:number){r=n;}\nop copy(from:record,to:record){to=from;}"}],
+ "stream":[{"client":"c1","app":"k","op":"copy","args":["a","c"],"reads":["a"],"writes":["c"]},
+  {"client":"c1","app":"k","op":"set","args":["a",5],"reads":[],"writes":["a"]}],
+ "faulty":[],"schedule":[{"do":"all"}]}"#;
+
+// Two writers of one record, one that aborts, and a reader.
+const WRITERS: &str = r#"{"version":1,"kind":"raw","cut":{"txns":256,"bytes":1048576},
+ "records":[["a",1],["b",0],["c",0]],"orderers":["o1"],"quorum":1,"peers":["p1"],
+ "apps":[{"name":"k","agents":["p1"],"tau":1,"clients":["c1"],
+   "contract":"op set(r:record,n:number){r=n;}\nop pay(from:record,to:record,n:number){require from>=n;from=from-n;to=to+n;}\nop copy(from:record,to:record){to=from;}"}],
+ "stream":[{"client":"c1","app":"k","op":"set","args":["a",4],"reads":[],"writes":["a"]},
+  {"client":"c1","app":"k","op":"set","args":["a",9],"reads":[],"writes":["a"]},
+  {"client":"c1","app":"k","op":"pay","args":["a","b",50],"reads":["a","b"],"writes":["a","b"]},
+  {"client":"c1","app":"k","op":"copy","args":["a","c"],"reads":["a"],"writes":["c"]}],
+ "faulty":[],"schedule":[{"do":"all"}]}"#;
+
 // Each position copies 1, and makes the next one ready.
 const RELAYED: [Want; 3] = [
     Want {
         read: Some(1),
-        wrote: 1,
+        wrote: Some(1),
         made: Some(1),
     },
     Want {
         read: Some(1),
-        wrote: 1,
+        wrote: Some(1),
         made: Some(2),
     },
     Want {
         read: Some(1),
-        wrote: 1,
+        wrote: Some(1),
         made: None,
     },
 ];
@@ -60,22 +81,72 @@ const RELAYED: [Want; 3] = [
 const READ_FIRST: [Want; 2] = [
     Want {
         read: Some(1),
-        wrote: 1,
+        wrote: Some(1),
         made: Some(1),
     },
     Want {
         read: None,
-        wrote: 5,
+        wrote: Some(5),
         made: None,
     },
 ];
+
+// The second position writes 5 first, and the first still reads 1.
+const WRITTEN_FIRST: [Want; 2] = [
+    Want {
+        read: Some(1),
+        wrote: Some(1),
+        made: None,
+    },
+    Want {
+        read: None,
+        wrote: Some(5),
+        made: None,
+    },
+];
+
+// The second writer finishes first; what aborts leaves its 9 to the reader.
+const WRITTEN_IN_TURN: [Want; 4] = [
+    Want {
+        read: None,
+        wrote: Some(4),
+        made: Some(2),
+    },
+    Want {
+        read: None,
+        wrote: Some(9),
+        made: None,
+    },
+    Want {
+        read: Some(9),
+        wrote: None,
+        made: Some(3),
+    },
+    Want {
+        read: Some(9),
+        wrote: Some(9),
+        made: None,
+    },
+];
+
+// Each position came to what the row says.
+fn came_to(rt: &impl Abort, ran: &Ran, wanted: &[Want]) {
+    assert_eq!(rt; ran.outcomes.len(), wanted.len());
+    assert_eq!(rt; ran.trace.len(), wanted.len());
+    for (outcome, want) in ran.outcomes.as_slice().iter().zip(wanted) {
+        match outcome {
+            Some(outcome) => assert_eq!(rt; written(outcome), want.wrote),
+            None => panic!(rt; "no outcome"),
+        }
+    }
+}
 
 // Each position came to a commit of its value, and they ran one after another.
 fn ran_in_turn(rt: &impl Abort, ran: &Ran, wanted: &[Want]) {
     assert_eq!(rt; ran.outcomes.len(), wanted.len());
     for (outcome, want) in ran.outcomes.as_slice().iter().zip(wanted) {
         assert!(rt;
-            matches!(outcome, Some(Outcome::Commit(entries)) if entries.as_slice() == [Some(want.wrote)].as_slice())
+            matches!(outcome, Some(Outcome::Commit(entries)) if entries.as_slice() == [want.wrote].as_slice())
         );
     }
     let stamps = ran.trace.as_slice();
@@ -98,6 +169,33 @@ fn copies_are_relayed(rt: HostRuntime) -> Result<(), Fail> {
     for span in ran.trace.as_slice() {
         assert_eq!(rt; span.worker, 0);
     }
+    Ok(())
+}
+
+#[test]
+fn versions_are_relayed(rt: HostRuntime) -> Result<(), Fail> {
+    let alloc = rt.alloc();
+    let setting = set_up(alloc, RELAY)?;
+    let ran = relay::<Slots, Setting>(&rt, alloc, &setting.plan(), &setting, &RELAYED)?;
+    ran_in_turn(&rt, &ran, &RELAYED);
+    Ok(())
+}
+
+#[test]
+fn a_write_runs_before_an_earlier_read(rt: HostRuntime) -> Result<(), Fail> {
+    let alloc = rt.alloc();
+    let setting = set_up(alloc, RAW_ANTI_DEPENDENCY)?;
+    let ran = beside::<Slots, Setting>(&rt, alloc, &setting.plan(), &setting, &WRITTEN_FIRST)?;
+    came_to(&rt, &ran, &WRITTEN_FIRST);
+    Ok(())
+}
+
+#[test]
+fn a_reader_passes_an_abort(rt: HostRuntime) -> Result<(), Fail> {
+    let alloc = rt.alloc();
+    let setting = set_up(alloc, WRITERS)?;
+    let ran = writers::<Slots, Setting>(&rt, alloc, &setting.plan(), &setting, &WRITTEN_IN_TURN)?;
+    came_to(&rt, &ran, &WRITTEN_IN_TURN);
     Ok(())
 }
 

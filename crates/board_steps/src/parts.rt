@@ -148,13 +148,7 @@ fn write_entries(
 }
 
 // Writes each value that t gives, once all its words are published.
-fn write_all(
-    words: &Words,
-    records: &[u16],
-    seat: &mut Seat<u8, View>,
-    t: usize,
-    outcome: &Outcome,
-)
+fn write_all(words: &Words, records: &[u16], seat: &mut Seat<u8, View>, t: usize, outcome: &Outcome)
     requires seat { (seat.old.table_id ≡ words.now.table_id) × IsLive seat.old.me.0 }
     requires place { HasRoom (told words.now.key) words.now.table_id.words × (t < length (told words.now.key).txns) }
     requires records { (records.now ≡ writes_at (told words.now.key) t) × IsRising records.now × ((k : ℕ) → k < length records.now → slice_index records.now k < length (told words.now.key).table.records) }

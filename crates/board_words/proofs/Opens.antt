@@ -11,13 +11,13 @@ use Rattle.std.proofs.lemmas.Bool.{false≢true, ltb-true, lt-ltb, le-ltb, and_p
 use Rattle.atomic_table.specs.Table.{opening}
 use Rattle.txn_types.specs.declared.txn.Kind.{Kind}
 use Rattle.txn_types.specs.declared.txn.Txn.{Txn}
-use Rattle.oxii_defs.specs.State.{contains, value_in}
+use Rattle.oxii_defs.specs.State.{contains}
 use Rattle.oxii_defs.specs.Dependency.{depends, preds_from, graph_after, graph_of}
-use Rattle.known_defs.specs.Known.{txn_at, no_txn, after_known}
+use Rattle.known_defs.specs.Known.{txn_at, no_txn}
 use Rattle.board_defs.specs.Closure.{Plan, IsLawfulPlan, is_own, known_at}
 use Rattle.board_core.specs.declared.view.View.{View}
 use Rattle.board_core.specs.Counts.{once_below, below, times}
-use Rattle.board_core.specs.Words.{clock, need, need_at, turn, part, value, value_place}
+use Rattle.board_core.specs.Words.{clock, need, need_at, turn, part, value}
 use Rattle.board_core.specs.Script.{Script, IsOwn, IsSound, IsAfter}
 use Rattle.board_core.specs.Rule.{Apart, Holds, Fixed}
 use Rattle.board_core.specs.Steps.{first_view, planned, ready_below}

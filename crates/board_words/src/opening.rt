@@ -151,11 +151,7 @@ pub struct Opening {
 }
 
 /// The rows, the words and the duties with which a board begins.
-pub fn opening_of(
-    alloc: Global,
-    plan: &Plan<'_>,
-    layout: Layout,
-) -> Result<Opening, OutOfMemory>
+pub fn opening_of(alloc: Global, plan: &Plan<'_>, layout: Layout) -> Result<Opening, OutOfMemory>
     requires planned { IsBoardPlan layout plan.now }
     ensures held { AreHeld (plan_of plan.now) }
     ensures rows { IfOk result (λ o. AreRows (plan_of plan.now) o.rows) }

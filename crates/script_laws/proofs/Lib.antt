@@ -3,3 +3,4 @@ pub mod Sound
 pub mod Starts
 pub mod Fitted
 pub mod Traced
+pub mod VersionsKept

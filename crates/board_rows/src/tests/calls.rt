@@ -13,7 +13,7 @@ use txn_types::Outcome;
 #[derive(Clone, Copy)]
 pub struct Want {
     pub read: Option<u64>,
-    pub wrote: u64,
+    pub wrote: Option<u64>,
     pub made: Option<u16>,
 }
 
@@ -47,8 +47,8 @@ pub fn misses<W: Work>(rt: &impl Abort, work: &W, pass: &mut W::Pass, t: u16) ->
     }
 }
 
-// The first value that an outcome has.
-fn written(outcome: &Outcome) -> Option<u64> {
+/// The first value that an outcome has; an abort has none.
+pub fn written(outcome: &Outcome) -> Option<u64> {
     match outcome {
         Outcome::Commit(entries) => *entries.as_slice().first()?,
         Outcome::Abort(_) => None,
@@ -59,7 +59,7 @@ fn is_wanted(rt: &impl Abort, want: &Want, read: u64, outcome: &Outcome, made: &
     if let Some(value) = want.read {
         assert_eq!(rt; read, value);
     }
-    assert_eq!(rt; written(outcome), Some(want.wrote));
+    assert_eq!(rt; written(outcome), want.wrote);
     assert!(rt; made.list().len() <= 1);
     assert!(rt; made.list().first() == want.made.as_ref());
 }

@@ -63,3 +63,60 @@ pub fn anti_dependency<W: Work, T: Task>(
     runs(rt, &work, task, &mut first, 0, &wanted[0]);
     Ok(())
 }
+
+/// A position that writes what an earlier one reads, by a pass of its own, and before it.
+#[tactic(auto, using(crate::proofs::PassLemmas::two_passes))]
+pub fn beside<W: Work, T: Task>(
+    rt: &impl Abort,
+    alloc: Global,
+    plan: &Plan<'_>,
+    task: &T,
+    wanted: &[Want; 2],
+) -> Result<Ran, OutOfMemory>
+    requires raw { W.RAW ≡ true }
+    requires runnable { IsRunnable plan.now }
+    requires task { T.plan task.now ≡ plan_of plan.now }
+    requires own { (t : ℕ) → t < length plan.now.block.now.txns → is_own (plan_of plan.now) t ≡ true }
+{
+    assert_eq!(rt; plan.block.txns.len(), 2);
+    let (work, mut first) = W::plan(alloc, plan)?;
+    let mut second = work.split(alloc, &mut first)?;
+    takes(rt, &work, &mut first, 0);
+    takes(rt, &work, &mut second, 1);
+    runs(rt, &work, task, &mut second, 1, &wanted[1]);
+    runs(rt, &work, task, &mut first, 0, &wanted[0]);
+    let both = work.join(first, second);
+    assert!(rt; W::untried(&both).is_none());
+    Ok(work.close(both))
+}
+
+/// Two writers of one record side by side, then one that waits for both, then a reader.
+#[tactic(auto, using(crate::proofs::PassLemmas::two_passes))]
+pub fn writers<W: Work, T: Task>(
+    rt: &impl Abort,
+    alloc: Global,
+    plan: &Plan<'_>,
+    task: &T,
+    wanted: &[Want; 4],
+) -> Result<Ran, OutOfMemory>
+    requires raw { W.RAW ≡ true }
+    requires runnable { IsRunnable plan.now }
+    requires task { T.plan task.now ≡ plan_of plan.now }
+    requires own { (t : ℕ) → t < length plan.now.block.now.txns → is_own (plan_of plan.now) t ≡ true }
+{
+    assert_eq!(rt; plan.block.txns.len(), 4);
+    let (work, mut first) = W::plan(alloc, plan)?;
+    let mut second = work.split(alloc, &mut first)?;
+    takes(rt, &work, &mut first, 0);
+    takes(rt, &work, &mut second, 1);
+    assert_eq!(rt; misses(rt, &work, &mut second, 2), Some(2));
+    runs(rt, &work, task, &mut second, 1, &wanted[1]);
+    runs(rt, &work, task, &mut first, 0, &wanted[0]);
+    takes(rt, &work, &mut first, 2);
+    runs(rt, &work, task, &mut first, 2, &wanted[2]);
+    takes(rt, &work, &mut second, 3);
+    runs(rt, &work, task, &mut second, 3, &wanted[3]);
+    let both = work.join(first, second);
+    assert!(rt; W::untried(&both).is_none());
+    Ok(work.close(both))
+}

@@ -1,4 +1,4 @@
-use Rattle.std.proofs.Common.{◌≡◌, ◌∙◌, ℕ, sym, subst, Some, None}
+use Rattle.std.proofs.Common.{◌≡◌, ◌∙◌, ℕ, subst, Some, None}
 use Rattle.board_core.specs.Script.{Gives}
 use Rattle.board_steps.specs.Abouts.{told}
 use Rattle.board_work.specs.Scripts.{script_of}

@@ -1,11 +1,9 @@
-use Rattle.std.proofs.Common.{◌≡◌, ◌∙◌, ◌<◌, ◌≤◌, ◌*◌, ◌+◌, ℕ, sym, ap, subst, length, get_or, arith, [], List, rules, false, Bool}
+use Rattle.std.proofs.Common.{◌≡◌, ◌∙◌, ◌<◌, ◌≤◌, ℕ, sym, ap, subst, length, get_or, arith, [], List, rules, false, Bool}
 use Rattle.std.proofs.lemmas.List.{length-replicate}
 use Rattle.txn_types.specs.Rising.{IsRising}
-use Rattle.oxii_defs.specs.State.{value_in}
-use Rattle.known_defs.specs.Known.{txn_at, after_known}
+use Rattle.known_defs.specs.Known.{txn_at}
 use Rattle.txn_types.specs.declared.txn.Txn.{Txn}
 use Rattle.board_defs.specs.Closure.{Plan, is_own}
-use Rattle.txn_core.specs.States.{state_of}
 use Rattle.board_core.specs.Counts.{times, below}
 use Rattle.board_core.specs.Words.{need}
 use Rattle.board_core.specs.Steps.{planned}

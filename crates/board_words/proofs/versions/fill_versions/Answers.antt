@@ -1,4 +1,4 @@
-use Rattle.std.proofs.Common.{◌∙◌, ◌<◌, subst, arith, length}
+use Rattle.std.proofs.Common.{◌∙◌, subst, arith}
 use Rattle.board_words.proofs.Filling.{txn_is, known_is_at}
 use Rattle.board_words.proofs.EarlyVersions.{SetsOne, known_put, known_others}
 use Rattle.board_words.proofs.versions.fill_versions.Goals as goal

@@ -1,4 +1,4 @@
-use Rattle.std.proofs.Common.{◌∙◌, ◌+◌, ◌*◌, ◌<◌, ap, length, arith, length-set, get_or-set_other, Some}
+use Rattle.std.proofs.Common.{◌∙◌, ◌+◌, ◌*◌, ap, length, arith, length-set, get_or-set_other, Some}
 use Rattle.board_work.specs.Scripts.{word_of}
 use Rattle.script_laws.proofs.Fitted.{fits_small}
 use Rattle.board_words.proofs.EarlyVersions.{version_step}
