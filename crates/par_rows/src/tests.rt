@@ -3,8 +3,8 @@
 mod bytes;
 mod devices;
 mod lists;
-mod not_taken;
 mod rows;
+mod taken;
 mod words;
 
 use document_rows::{

@@ -86,7 +86,7 @@ fn numbers(rt: HostRuntime) {
     for (status, number) in [
         (Status::Ok, 0),
         (Status::Usage, 2),
-        (Status::Refused(DocFault::NotYet), 3),
+        (Status::Refused(DocFault::NotJson), 3),
         (Status::OutOfMemory, 4),
         (Status::ReadFault, 5),
         (Status::WriteFault, 6),

@@ -1,21 +1,20 @@
-//! What a run doesn't take so far.
+//! What both commands take, and what both refuse.
 
 use super::*;
 
-// So far a run has kind full, whatever else it has; `graph` takes every document.
+// Each document that means something is taken by both commands.
 #[test]
-fn not_yet(rt: HostRuntime) -> Result<(), Fail> {
+fn each_meaning(rt: HostRuntime) -> Result<(), Fail> {
     let text = TRANSFER.replace(rt.alloc(), "\"", "'")?;
-    let wrong = wrong_row(&rt, rt.alloc(), "run", text.as_str(), NOT_YET)?;
-    assert_eq!(rt; wrong.as_str(), "");
-    let rows = NOT_YET.replace(rt.alloc(), "not yet", "accepted")?;
-    let wrong = wrong_row(&rt, rt.alloc(), "graph", text.as_str(), rows.as_str())?;
-    assert_eq!(rt; wrong.as_str(), "");
+    for command in ["run", "graph"] {
+        let wrong = wrong_row(&rt, rt.alloc(), command, text.as_str(), ROWS)?;
+        assert_eq!(rt; wrong.as_str(), "", "{command}");
+    }
     Ok(())
 }
 
-const NOT_YET: &str = "'full' -> 'full' => accepted
-'full' -> 'raw' => not yet
+const ROWS: &str = "'full' -> 'full' => accepted
+'full' -> 'raw' => accepted
 'o1' -> 'o1','o2' => accepted
 'peers':['p1'] -> 'peers':['p1','p2'] => accepted
 'apps':[ -> 'apps':[{'name':'k','agents':['p1'],'tau':1,'clients':[],'contract':'op f(){}'}, => accepted
