@@ -339,7 +339,11 @@ impl Frame {
     ghost use Rattle.board_frame.specs.Frames.{frame_home, IsFrameClosed};
 
     /// The frame of a plan with this layout, and pass number 0.
-    pub fn open(alloc: Global, plan: &Plan<'_>, layout: Layout) -> Result<(Frame, Pass), OutOfMemory>
+    pub fn open(
+        alloc: Global,
+        plan: &Plan<'_>,
+        layout: Layout,
+    ) -> Result<(Frame, Pass), OutOfMemory>
         requires runnable { IsRunnable plan.now }
         requires kind { has_values layout ≡ true → plan.now.table.now.kind ≡ Full }
         ensures plan { IfOk result (λ r. (frame_home r.0).plan ≡ plan_of plan.now) }

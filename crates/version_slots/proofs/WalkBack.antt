@@ -1,5 +1,5 @@
 -- Walking back over the versions of earlier writers gives the serial value.
-use Rattle.std.proofs.Common.{◌≡◌, ℕ, zero, suc, true, not, ◌||◌, ◌+◌, ◌-◌, ◌<◌, ◌≤◌, ◌⊎◌, inl, inr, ⊎_elim, List, length, get_or, sym, refl, ap, ◌∙◌, subst, arith, Option, Some, None}
+use Rattle.std.proofs.Common.{◌≡◌, ℕ, suc, true, not, ◌||◌, ◌+◌, ◌-◌, ◌<◌, ◌≤◌, ◌⊎◌, inl, inr, ⊎_elim, List, length, get_or, sym, ap, ◌∙◌, arith, Option, Some, None}
 use Rattle.std.specs.Prelude.{is_some, nat_lt}
 use Rattle.std.proofs.lemmas.Bool.{false≢true, lt-ltb, and_parts, and_from}
 use Rattle.txn_types.specs.declared.txn.Txn.{Txn}
@@ -9,13 +9,12 @@ use Rattle.known_defs.specs.Known.{no_txn}
 use Rattle.board_defs.specs.Closure.{Plan, IsLawfulPlan, is_own, known_at}
 use Rattle.board_core.specs.Script.{Script, Runs, or_else, serial_value}
 use Rattle.board_work.specs.declared.layout.Layout.TheVariants.{Versions}
-use Rattle.board_work.specs.Scripts.{AreHeld, reads_at, writes_at, outcome_at, state_before, gives, cell_word, word_of, has_values, is_early_version, script, uses_at}
+use Rattle.board_work.specs.Scripts.{AreHeld, reads_at, writes_at, outcome_at, gives, cell_word, word_of, has_values, is_early_version, script}
 use Rattle.board_steps.specs.declared.about.About.{About}
 use Rattle.board_steps.specs.Abouts.{told, scripted, IsLaidOut}
 use Rattle.board_words.specs.Words.{cell_back}
 use Rattle.board_words.proofs.Decode.{cell_is}
 use Rattle.script_laws.proofs.Sound.{sound_for, writer_comes, known_is, used_below}
-use Rattle.script_laws.proofs.States.{serial_is}
 use Rattle.version_slots.specs.Places.{place_in}
 use Rattle.version_slots.proofs.PlaceLemmas.{place_stands, version_is}
 

@@ -1,4 +1,4 @@
-use Rattle.std.proofs.Common.{◌<◌, arith, length}
+use Rattle.std.proofs.Common.{arith}
 use Rattle.version_slots.proofs.PlaceLemmas.{place_found, place_missing}
 use Rattle.version_slots.proofs.walk.place_of.Goals as goal
 

@@ -5,7 +5,7 @@ use Rattle.board_core.specs.declared.view.View.{View}
 use Rattle.board_core.specs.Words.{part}
 use Rattle.board_core.proofs.Closing.{traces}
 use Rattle.board_steps.specs.Abouts.{told}
-use Rattle.board_work.specs.Scripts.{script, script_of, word_of, outcome_at, writes_at}
+use Rattle.board_work.specs.Scripts.{script_of, word_of, outcome_at, writes_at}
 use Rattle.std.proofs.Common.{map}
 use Rattle.board_defs.specs.Closure.{Plan, run_outcomes}
 use Rattle.board_work.specs.Plans.{span_of}

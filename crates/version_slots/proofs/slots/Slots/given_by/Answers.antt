@@ -1,4 +1,4 @@
-use Rattle.std.proofs.Common.{◌≡◌, ◌∙◌, ◌+◌, ◌<◌, ap, sym, subst, arith, true, Option, None, ℕ}
+use Rattle.std.proofs.Common.{◌≡◌, ◌∙◌, ap, sym, subst, arith, true, None}
 use Rattle.oxii_defs.specs.State.{contains}
 use Rattle.board_work.specs.Scripts.{reads_at, writes_at, outcome_at, gives}
 use Rattle.board_steps.specs.Abouts.{told}

@@ -1,4 +1,4 @@
-use Rattle.std.proofs.Common.{◌≡◌, ◌∙◌, ◌<◌, ◌≤◌, ap, sym, subst, arith, true, length, get_or}
+use Rattle.std.proofs.Common.{◌≡◌, ◌∙◌, ap, sym, subst, arith, true, length, get_or}
 use Rattle.oxii_defs.specs.State.{contains, value_in}
 use Rattle.txn_core.proofs.StateLemmas.{value_of_state}
 use Rattle.board_work.specs.Scripts.{reads_at, script}
