@@ -1,29 +1,17 @@
 -- Lawful blocks.
-use Rattle.std.proofs.Common.{◌≤◌, ℕ, suc, List, [], ◌∷◌, length, Option, Some, None, arith, sym, ap, subst}
+use Rattle.std.proofs.Common.{◌≤◌, ℕ, suc, List, [], ◌∷◌, length, arith}
 use Rattle.std.specs.List.{All}
 use Rattle.std.proofs.lemmas.List.Elements.{All-cons, All-nil, All-tail}
-use Rattle.txn_types.specs.declared.txn.Txn.{Txn}
-use Rattle.txn_types.specs.declared.block.Config.{Config}
 use Rattle.txn_types.specs.declared.block.Block.{Block}
 use Rattle.txn_types.specs.declared.block.Body.{Body}
-use Rattle.oxii_defs.specs.Table.{Table, IsLawfulTxn}
+use Rattle.oxii_defs.specs.Table.{Table}
 use Rattle.oxii_defs.specs.Lawful.{IsLawfulBody}
 use Rattle.oxii_defs.specs.Chain.{IsLawfulBlock, chain_from}
 use Rattle.oxii_defs.specs.BlockBytes.{block_hash}
-
-body_txns : (table : Table) (txns : List Txn) (config : Option Config) → IsLawfulBody table txns config → All (IsLawfulTxn table) txns
-body_txns table txns None lawful = lawful.1
-body_txns table txns (Some config) lawful = subst (All (IsLawfulTxn table)) (sym lawful.0) (All-nil (IsLawfulTxn table))
-
-body_count : (table : Table) (txns : List Txn) (config : Option Config) → IsLawfulBody table txns config → length txns ≤ 256
-body_count table txns None lawful = omega (arith, lawful.0.1)
-body_count table txns (Some config) lawful = omega (arith, ap length lawful.0)
-
-pub txns_lawful : (table : Table) (block : Block) → IsLawfulBlock table block → All (IsLawfulTxn table) block.txns
-txns_lawful table block lawful = body_txns table block.txns block.config lawful
+use Rattle.node_laws.proofs.LawfulBlockLemmas.{block_few}
 
 pub txns_few : (table : Table) (block : Block) → IsLawfulBlock table block → length block.txns ≤ 256
-txns_few table block lawful = body_count table block.txns block.config lawful
+txns_few table block lawful = block_few table block lawful
 
 -- the blocks of lawful bodies are lawful
 pub chain_lawful : (table : Table) (n : ℕ) (prev : List ℕ) (bodies : List Body) → All (λ body. IsLawfulBody table body.txns body.config) bodies → All (IsLawfulBlock table) (chain_from table n prev bodies)

@@ -18,7 +18,8 @@ use Rattle.txn_core.specs.States.{state_of}
 use Rattle.node_defs.specs.Admission.{AreLawfulPieces, pieces_of}
 use Rattle.node_defs.specs.Cutting.{rejected_from}
 use Rattle.node_defs.specs.Text.{text, IsTextOf}
-use Rattle.node_defs.specs.World.{World, Setting, setting_of, IsLawfulEvent, IsSaidByFaulty, IsWorld, is_false, items_named, start}
+use Rattle.node_defs.specs.World.{World, Setting, setting_of, IsLawfulEvent, IsWorld, is_false, items_named, start}
+use Rattle.node_defs.proofs.LawfulEvents.{said_by_faulty}
 use Rattle.node_laws.proofs.Bodies.{lawful_pieces}
 use Rattle.text_laws.proofs.Counts.{carry_the_stream}
 use Rattle.text_laws.proofs.SerialTexts.{tame_texts}
@@ -122,15 +123,8 @@ run_text_of workers traced input items blocks pieces rejected lines w k table_is
 
 -- TAME DOCUMENTS
 
--- in a lawful schedule faulty nodes alone say what they like
-said_by_faulty : (s : Setting) (e : Event) → IsLawfulEvent s e → IsSaidByFaulty s e
-said_by_faulty s (event.Deliver msg to) h = tt
-said_by_faulty s event.All h = tt
-said_by_faulty s (event.SayBlock from number prev items preds) h = h.from_faulty
-said_by_faulty s (event.SayCommit from commit) h = h.from_faulty
-
 pub serial_is : (input : Input) (lines : List ℕ) → IsLawfulInput input →
     IsTextOf input.table (state_of input.genesis) input.items input.limits input.faulty input.schedule lines → IsTame input → IsSerialText input lines
 serial_is input lines lawful printed tame =
     tame_texts input.table (state_of input.genesis) input.items input.limits input.faulty input.schedule lines tame
-    (λ bodies i d l. said_by_faulty (setting_of input.table (state_of input.genesis) input.items bodies input.faulty) _ ((lawful.schedule (state_of input.genesis) bodies).each i d l)) printed
+    (λ bodies. said_by_faulty (setting_of input.table (state_of input.genesis) input.items bodies input.faulty) input.schedule (lawful.schedule (state_of input.genesis) bodies).each) printed
