@@ -1,6 +1,8 @@
-//! What a run on one thread comes to, and what its gate is told, with ample memory.
+//! What a burst comes to, and what its gate is told, with ample memory.
 
 mod calls;
+mod gates;
+mod meeting;
 mod plans;
 mod rows;
 mod setting;

@@ -43,7 +43,7 @@ fn is_ready(plan: &Plan<'_>, t: u16) -> bool
 // Pushes hints to the first duties.
 fn push_first<F: OwnFlags>(plan: &Plan<'_>, deques: &mut Deques<F>)
     requires plan { IsRunnable plan.now }
-    requires own { plan.now.own.now ≡ F.own }
+    requires flags { plan.now.own.now ≡ F.own }
 {
     for t in 0..plan.block.txns.len() {
         if is_ready(plan, t as u16) {
@@ -73,7 +73,7 @@ fn run_hired<
 ) -> Result<Ran, OutOfMemory>
     requires runnable { IsRunnable plan.now }
     requires task { IsTask (W.home work).plan (A.table table.now) (B.txns block.now) }
-    requires own { ((W.home work).plan.own ≡ F.own) × (plan.now.own.now ≡ F.own) }
+    requires flags { ((W.home work).plan.own ≡ F.own) × (plan.now.own.now ≡ F.own) }
     requires first { IsFirst (W.home work) (W.state first) }
     requires workers { (1 ≤ workers) × (workers ≤ 16) }
     ensures closed { IfOk result (λ ran. W.closed (W.home work).plan ran.outcomes (map span_of ran.trace)) }

@@ -40,7 +40,7 @@ pub(crate) fn run_all<
     requires all { All (λ p. IsIdle (W.home work.now) (W.state p)) rest.items }
     requires deques { length deques.items ≡ length rest.items }
     requires task { IsTask (W.home work.now).plan (A.table table.now) (B.txns block.now) }
-    requires own { (W.home work.now).plan.own ≡ F.own }
+    requires flags { (W.home work.now).plan.own ≡ F.own }
     ensures idle { IsIdle (W.home work.now) (W.state result) }
     ensures tried { HasTried (W.state result) }
     ensures passes { (W.state result).passes ≤ (W.state first).passes }

@@ -68,7 +68,32 @@ fn try_one<W: Work, A: Evaluates, B: TxnList, G: Gate>(
     }
 }
 
-// Tries the positions of hints.
+// Tries a position, and pushes hints to what this makes ready.
+fn try_and_hint<F: OwnFlags, W: Work, A: Evaluates, B: TxnList, G: Gate>(
+    work: &W,
+    table: &A,
+    block: &B,
+    gate: &G,
+    pass: &mut W::Pass,
+    deques: &mut Deques<F>,
+    t: u16,
+    made: &mut Made,
+)
+    requires idle { IsIdle (W.home work.now) (W.state pass.old) }
+    requires task { IsTask (W.home work.now).plan (A.table table.now) (B.txns block.now) }
+    requires flags { (W.home work.now).plan.own ≡ F.own }
+    requires own { is_own (W.home work.now).plan t ≡ true }
+    requires empty { made.old ≡ [] }
+    ensures idle { IsIdle (W.home work.now) (W.state pass.new) }
+    ensures goes_on { GoesOn (W.state pass.old) (W.state pass.new) }
+    ensures duty { 0 < times t (W.state pass.old).duties → 0 < times t (W.state pass.new).tried }
+    ensures pushed { made.new ≡ [] }
+{
+    try_one(work, table, block, gate, pass, t, made);
+    push_hints(deques, made);
+}
+
+// Tries the positions of hints. Those that a finish makes are pushed before the next position is tried.
 fn follow_hints<F: OwnFlags, W: Work, A: Evaluates, B: TxnList, G: Gate>(
     work: &W,
     table: &A,
@@ -79,7 +104,7 @@ fn follow_hints<F: OwnFlags, W: Work, A: Evaluates, B: TxnList, G: Gate>(
 )
     requires idle { IsIdle (W.home work.now) (W.state pass.old) }
     requires task { IsTask (W.home work.now).plan (A.table table.now) (B.txns block.now) }
-    requires own { (W.home work.now).plan.own ≡ F.own }
+    requires flags { (W.home work.now).plan.own ≡ F.own }
     ensures idle { IsIdle (W.home work.now) (W.state pass.new) }
     ensures goes_on { GoesOn (W.state pass.old) (W.state pass.new) }
 {
@@ -88,8 +113,7 @@ fn follow_hints<F: OwnFlags, W: Work, A: Evaluates, B: TxnList, G: Gate>(
         let Some(t) = next_hint(deques) else {
             break;
         };
-        try_one(work, table, block, gate, pass, t, &mut made);
-        push_hints(deques, &mut made);
+        try_and_hint(work, table, block, gate, pass, deques, t, &mut made);
     }
 }
 
@@ -104,15 +128,14 @@ fn try_duties<F: OwnFlags, W: Work, A: Evaluates, B: TxnList, G: Gate>(
 )
     requires idle { IsIdle (W.home work.now) (W.state pass.old) }
     requires task { IsTask (W.home work.now).plan (A.table table.now) (B.txns block.now) }
-    requires own { (W.home work.now).plan.own ≡ F.own }
+    requires flags { (W.home work.now).plan.own ≡ F.own }
     ensures idle { IsIdle (W.home work.now) (W.state pass.new) }
     ensures goes_on { GoesOn (W.state pass.old) (W.state pass.new) }
     ensures tried { HasTried (W.state pass.new) }
 {
     let mut made = Made::new();
     'duties: while let Some(t) = W::untried(pass) {
-        try_one(work, table, block, gate, pass, t, &mut made);
-        push_hints(deques, &mut made);
+        try_and_hint(work, table, block, gate, pass, deques, t, &mut made);
     }
 }
 
@@ -127,7 +150,7 @@ pub(crate) fn work_on<F: OwnFlags, W: Work, A: Evaluates, B: TxnList, G: Gate>(
 ) -> W::Pass
     requires idle { IsIdle (W.home work.now) (W.state pass) }
     requires task { IsTask (W.home work.now).plan (A.table table.now) (B.txns block.now) }
-    requires own { (W.home work.now).plan.own ≡ F.own }
+    requires flags { (W.home work.now).plan.own ≡ F.own }
     ensures idle { IsIdle (W.home work.now) (W.state result) }
     ensures goes_on { GoesOn (W.state pass) (W.state result) }
     ensures tried { HasTried (W.state result) }

@@ -1,6 +1,6 @@
 // Plans of a block, and their runs.
 
-ghost use Rattle.std.specs.Prelude.{◌≡◌, ◌<◌, ℕ, length, IsTrue};
+ghost use Rattle.std.specs.Prelude.{◌≡◌, ◌<◌, ◌≤◌, ℕ, length, IsTrue};
 ghost use Rattle.oxii_defs.specs.Lawful.{IsLawfulTable};
 ghost use Rattle.oxii_defs.specs.Chain.{IsLawfulBlock};
 ghost use Rattle.txn_core.specs.MeantTable.{table_of};
@@ -10,10 +10,12 @@ ghost use Rattle.burst_rows.specs.Standing.{CanStand};
 use super::setting::Setting;
 use board_work::{Own, Plan, Ran};
 use dep_graph::{build, knows_preds};
+use ready_board::Board;
 use std::alloc::Global;
 use std::test::Fail;
-use steal_pool::{Gate, burst_plain};
-use txn_types::{Known, OutOfMemory, Outcome, Writes};
+use std::thread::Threads;
+use steal_pool::{Gate, burst};
+use txn_types::{Kind, Known, OutOfMemory, Outcome, Writes};
 
 fn wrote(value: u64) -> Outcome {
     let mut entries = Writes::empty();
@@ -70,17 +72,20 @@ fn all_can_stand(plan: &Plan) -> bool
     true
 }
 
-/// Runs the block where these positions are to be run and these values are known.
-pub fn run<G: Gate>(
+/// Runs the block by so many workers, where these positions are to be run and these values are known.
+pub fn run<G: Gate, R: Threads + Sync>(
+    rt: &R,
     alloc: Global,
     setting: &Setting,
     positions: &[bool],
     values: &[Option<u64>],
+    workers: u8,
     gate: &G,
 ) -> Result<Ran, Fail>
     requires table { IsLawfulTable (table_of setting.now.table) }
     requires base { length setting.now.base ≡ length setting.now.table.records }
     requires block { IsLawfulBlock (table_of setting.now.table) setting.now.block }
+    requires workers { (1 ≤ workers) × (workers ≤ 16) }
 {
     let block = &setting.block;
     if block.txns.len() > 256 {
@@ -95,7 +100,8 @@ pub fn run<G: Gate>(
         own: &own(alloc, positions)?,
         base: &setting.base,
     };
-    if plan.known.len() != block.txns.len()
+    if setting.table.kind != Kind::Full
+        || plan.known.len() != block.txns.len()
         || plan.own.len() != block.txns.len()
         || !all_can_stand(&plan)
     {
@@ -103,5 +109,5 @@ pub fn run<G: Gate>(
     }
     // Reading the values tells that each is in its range.
     let _ = setting.base.as_slice();
-    Ok(burst_plain(alloc, &plan, gate)?)
+    Ok(burst::<Board, G, R>(rt, alloc, &plan, workers, gate)?)
 }

@@ -3,9 +3,14 @@
 use super::calls::Call::{self, Begin, End};
 use super::calls::Listed;
 use super::plans::{outcomes, run};
-use super::setting::{NUMBER, relay};
+use super::setting::{NUMBER, set_up};
 use board_work::Span;
 use std::test::Fail;
+use steal_pool::FreeGate;
+
+// Copies from a to b, from b to c and from c to d, of which another application has the second.
+const RELAY: &str =
+    "{'version':1,'kind':'full','cut':{'txns':256,'bytes':1048576},'records':[['a',1],['b',0],['c',0],['d',0]],'orderers':['o1'],'quorum':1,'peers':['p1','p2'],'apps':[{'name':'left','agents':['p1'],'tau':1,'clients':['c1'],'contract':'op copy(from:record,to:record){to=from;}'},{'name':'right','agents':['p2'],'tau':1,'clients':['c1'],'contract':'op copy(from:record,to:record){to=from;}'}],'stream':[{'client':'c1','app':'left','op':'copy','args':['a','b'],'reads':['a'],'writes':['b']},{'client':'c1','app':'right','op':'copy','args':['b','c'],'reads':['b'],'writes':['c']},{'client':'c1','app':'left','op':'copy','args':['c','d'],'reads':['c'],'writes':['d']}],'faulty':[],'schedule':[]}";
 
 fn begin(t: u16) -> Call {
     Begin(NUMBER, t)
@@ -25,9 +30,11 @@ fn span(t: u16, begin: u64, finish: u64) -> Span {
 }
 
 #[test]
-fn each_run_is_between_its_begin_and_its_end(rt: HostRuntime) -> Result<(), Fail> {
+fn one_worker_runs_one_after_another_and_four_come_to_the_same(
+    rt: HostRuntime,
+) -> Result<(), Fail> {
     let alloc = rt.alloc();
-    let setting = relay(alloc)?;
+    let setting = set_up(alloc, RELAY)?;
     for (own, known, due, given, spans) in [
         (
             [true, true, true].as_slice(),
@@ -66,17 +73,17 @@ fn each_run_is_between_its_begin_and_its_end(rt: HostRuntime) -> Result<(), Fail
         ),
     ] {
         let gate = Listed::new(due);
-        let ran = run(alloc, &setting, own, known, &gate)?;
-        assert!(rt;
-            ran.outcomes == outcomes(alloc, given)?,
-            "outcomes of {own:?} behind {known:?}"
-        );
+        let ran = run(&rt, alloc, &setting, own, known, 1, &gate)?;
+        let wanted = outcomes(alloc, given)?;
+        assert!(rt; ran.outcomes == wanted, "outcomes of {own:?} behind {known:?}");
         assert_eq!(rt;
             ran.trace.as_slice(),
             spans,
             "spans of {own:?} behind {known:?}"
         );
         assert!(rt; gate.is_as_due(), "calls of {own:?} behind {known:?}");
+        let ran = run(&rt, alloc, &setting, own, known, 4, &FreeGate)?;
+        assert!(rt; ran.outcomes == wanted, "outcomes of {own:?} behind {known:?} by four");
     }
     Ok(())
 }

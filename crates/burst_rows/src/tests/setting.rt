@@ -1,4 +1,4 @@
-// A document of two applications, and its one block.
+// The first block of a document.
 
 ghost use Rattle.std.specs.Prelude.{◌≡◌, length, IfOk};
 ghost use Rattle.oxii_defs.specs.Lawful.{IsLawfulTable};
@@ -15,10 +15,6 @@ use txn_types::{Block, Copies, Values};
 /// The number of the block.
 pub const NUMBER: u64 = 7;
 
-// With ' for quotation marks.
-const RELAY: &str =
-    "{'version':1,'kind':'full','cut':{'txns':256,'bytes':1048576},'records':[['a',1],['b',0],['c',0],['d',0]],'orderers':['o1'],'quorum':1,'peers':['p1','p2'],'apps':[{'name':'left','agents':['p1'],'tau':1,'clients':['c1'],'contract':'op copy(from:record,to:record){to=from;}'},{'name':'right','agents':['p2'],'tau':1,'clients':['c1'],'contract':'op copy(from:record,to:record){to=from;}'}],'stream':[{'client':'c1','app':'left','op':'copy','args':['a','b'],'reads':['a'],'writes':['b']},{'client':'c1','app':'right','op':'copy','args':['b','c'],'reads':['b'],'writes':['c']},{'client':'c1','app':'left','op':'copy','args':['c','d'],'reads':['c'],'writes':['d']}],'faulty':[],'schedule':[]}";
-
 /// A table, the values of its records, and a block.
 #[derive(Drop)]
 pub struct Setting {
@@ -27,13 +23,13 @@ pub struct Setting {
     pub block: Block,
 }
 
-/// Records a, b, c and d, of which a is 1 and the others are 0, and a block of copies from a to b, from b to c and from c to d, of which another application has the second.
-pub fn relay(alloc: Global) -> Result<Setting, Fail>
+/// The first block of a document, which has ' for quotation marks.
+pub fn set_up(alloc: Global, text: &str) -> Result<Setting, Fail>
     ensures table { IfOk result (λ setting. IsLawfulTable (table_of setting.table)) }
     ensures base { IfOk result (λ setting. length setting.base ≡ length setting.table.records) }
     ensures block { IfOk result (λ setting. IsLawfulBlock (table_of setting.table) setting.block) }
 {
-    let document = RELAY.replace(alloc, "'", "\"")?;
+    let document = text.replace(alloc, "'", "\"")?;
     let Ok(input) = read_input(alloc, document.as_bytes()) else {
         return Err("no document".into());
     };

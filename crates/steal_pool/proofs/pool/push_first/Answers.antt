@@ -8,4 +8,4 @@ use Rattle.steal_pool.proofs.pool.push_first.Goals as goal
 pub push_as-requires-clause-pushes : goal.push_as-requires-clause-pushes
 push_as-requires-clause-pushes g c =
     let t = c.loop-t.t in
-    pushes g.F.OwnFlags.own _ _ _ (all_one g.F.OwnFlags.own t (subst (λ own. IsOwn own t) c.requires.own (ready_own (plan_of c.args.plan.now) t c.is_ready.result c.is_ready.ensures c.if-is_ready.true)))
+    pushes g.F.OwnFlags.own _ _ _ (all_one g.F.OwnFlags.own t (subst (λ own. IsOwn own t) c.requires.flags (ready_own (plan_of c.args.plan.now) t c.is_ready.result c.is_ready.ensures c.if-is_ready.true)))
