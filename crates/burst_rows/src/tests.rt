@@ -2,7 +2,6 @@
 
 mod calls;
 mod gates;
-mod meeting;
 mod plans;
 mod rows;
 mod setting;

@@ -2,7 +2,7 @@
 
 use crate::Trouble;
 use par_io::{MemSink, MemSource};
-use par_top::{FreeGate, run, status_line};
+use par_top::{FreeGate, Gate, run, status_line};
 use std::alloc::Global;
 use std::thread::Threads;
 
@@ -38,17 +38,21 @@ pub fn answer<R: Threads + Sync>(
     line: &str,
     bytes: &[u8],
 ) -> Result<Said, Trouble> {
+    answer_with(rt, alloc, line, bytes, &FreeGate)
+}
+
+/// The same, where this gate is told of each transaction.
+pub fn answer_with<R: Threads + Sync, G: Gate>(
+    rt: &R,
+    alloc: Global,
+    line: &str,
+    bytes: &[u8],
+    gate: &G,
+) -> Result<Said, Trouble> {
     let words = words_of(alloc, line)?;
     let mut source = MemSource::new(bytes, 65_536, &[]);
     let mut sink = MemSink::new(alloc, 65_536, 1_048_576, &[])?;
-    let status = run(
-        rt,
-        alloc,
-        words.as_slice(),
-        &mut source,
-        &mut sink,
-        &FreeGate,
-    );
+    let status = run(rt, alloc, words.as_slice(), &mut source, &mut sink, gate);
     let line = status_line(alloc, &status)?;
     Ok(Said {
         text: text_of(alloc, sink.bytes())?,

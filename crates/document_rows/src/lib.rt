@@ -6,7 +6,7 @@ mod rows;
 mod texts;
 mod trouble;
 
-pub use answers::{BASE, Said, answer, text_of};
+pub use answers::{BASE, Said, answer, answer_with, text_of};
 pub use rows::{edited, json, replaced, wrong_row};
 pub use texts::wrong_texts;
 pub use trouble::Trouble;

@@ -2,14 +2,17 @@
 
 mod bytes;
 mod devices;
+mod gates;
 mod lists;
 mod rows;
 mod taken;
 mod words;
 
 use document_rows::{
-    BASE, Said, Trouble, answer, edited, json, replaced, text_of, wrong_row, wrong_texts,
+    BASE, Said, Trouble, answer, answer_with, edited, json, replaced, text_of, wrong_row,
+    wrong_texts,
 };
+use meeting_gate::Meeting;
 use par_io::{MemSink, MemSource};
 use par_top::{FreeGate, run, status_line};
 use std::alloc::{AllocError, Global};

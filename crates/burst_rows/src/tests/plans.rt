@@ -8,9 +8,8 @@ ghost use Rattle.txn_core.specs.Graphs.{IsGraphOf};
 ghost use Rattle.burst_rows.specs.Standing.{CanStand};
 
 use super::setting::Setting;
-use board_work::{Own, Plan, Ran};
+use board_work::{Own, Plan, Ran, Work};
 use dep_graph::{build, knows_preds};
-use ready_board::Board;
 use std::alloc::Global;
 use std::test::Fail;
 use std::thread::Threads;
@@ -72,8 +71,8 @@ fn all_can_stand(plan: &Plan) -> bool
     true
 }
 
-/// Runs the block by so many workers, where these positions are to be run and these values are known.
-pub fn run<G: Gate, R: Threads + Sync>(
+/// Runs the block on such a board by so many workers, where these positions are to be run and these values are known.
+pub fn run<W: Work, G: Gate, R: Threads + Sync>(
     rt: &R,
     alloc: Global,
     setting: &Setting,
@@ -109,5 +108,5 @@ pub fn run<G: Gate, R: Threads + Sync>(
     }
     // Reading the values tells that each is in its range.
     let _ = setting.base.as_slice();
-    Ok(burst::<Board, G, R>(rt, alloc, &plan, workers, gate)?)
+    Ok(burst::<W, G, R>(rt, alloc, &plan, workers, gate)?)
 }

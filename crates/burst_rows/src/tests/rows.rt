@@ -5,6 +5,7 @@ use super::calls::Listed;
 use super::plans::{outcomes, run};
 use super::setting::{NUMBER, set_up};
 use board_work::Span;
+use ready_board::Board;
 use std::test::Fail;
 use steal_pool::FreeGate;
 
@@ -73,17 +74,23 @@ fn one_worker_runs_one_after_another_and_four_come_to_the_same(
         ),
     ] {
         let gate = Listed::new(due);
-        let ran = run(&rt, alloc, &setting, own, known, 1, &gate)?;
+        let ran = run::<Board, _, _>(&rt, alloc, &setting, own, known, 1, &gate)?;
         let wanted = outcomes(alloc, given)?;
-        assert!(rt; ran.outcomes == wanted, "outcomes of {own:?} behind {known:?}");
+        assert!(rt;
+            ran.outcomes == wanted,
+            "outcomes of {own:?} behind {known:?}"
+        );
         assert_eq!(rt;
             ran.trace.as_slice(),
             spans,
             "spans of {own:?} behind {known:?}"
         );
         assert!(rt; gate.is_as_due(), "calls of {own:?} behind {known:?}");
-        let ran = run(&rt, alloc, &setting, own, known, 4, &FreeGate)?;
-        assert!(rt; ran.outcomes == wanted, "outcomes of {own:?} behind {known:?} by four");
+        let ran = run::<Board, _, _>(&rt, alloc, &setting, own, known, 4, &FreeGate)?;
+        assert!(rt;
+            ran.outcomes == wanted,
+            "outcomes of {own:?} behind {known:?} by four"
+        );
     }
     Ok(())
 }

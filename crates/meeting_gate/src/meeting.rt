@@ -1,7 +1,7 @@
-// Ends that wait for begins.
+//! Ends that wait for begins.
 
 use std::sync::atomic::{AtomicBool, Ordering};
-use steal_pool::Gate;
+use txn_core::Gate;
 
 const MOST_TURNS: u32 = 200_000_000;
 
