@@ -3,3 +3,4 @@ mod NewblockLemmas
 mod Counting
 mod Contents
 mod Held
+pub mod Lawful

@@ -2,12 +2,35 @@ use Rattle.std.proofs.Common.{sym, ◌∙◌, ap, length, false, subst}
 use Rattle.txn_types.specs.declared.message.Message.{Message}
 use Rattle.txn_types.specs.declared.message.Message.TheVariants as message
 use Rattle.txn_types.specs.declared.message.NewBlock.{NewBlock}
+use Rattle.oxii_defs.specs.Chain.{IsLawfulBlock}
+use Rattle.txn_core.specs.MeantTable.{table_of}
+use Rattle.newblock_quorum.proofs.Lawful.{blocks_keep}
 use Rattle.peer_laws.specs.declared.note.Note.{Note}
 use Rattle.peer_turns.specs.Answering.{put_note, votes_note}
-use Rattle.peer_turns.specs.Peers.{KeptPeer, peer_of}
+use Rattle.peer_turns.specs.Peers.{IsLawfulMessage, KeptPeer, peer_of}
 use Rattle.peer_turns.specs.Relation.{HearsOf, NotesOf, letter_from}
 use Rattle.peer_turns.proofs.HearLemmas.{with_heard, heard_newblock, heard_commit, heard_own, noted_newblock, noted_commit, noted_own}
 use Rattle.peer_turns.proofs.hearing.hear.Goals as goal
+
+pub returns-in_ok-answer-in-NewBlock-clause-kept : goal.returns-in_ok-answer-in-NewBlock-clause-kept
+returns-in_ok-answer-in-NewBlock-clause-kept c =
+    let w = c.requires.kept in
+    let table = table_of c.args.table.now in
+    let keeps = c.in_ok-answer-in-NewBlock.ensures.keeps in
+    let copied = c.in_ok-copied-in-NewBlock in
+    let brought = subst (λ (m : Message). IsLawfulMessage table m) c.in-NewBlock.is c.requires.lawful in
+    let lawful = subst (λ (m : NewBlock). IsLawfulBlock table m.block) (sym copied.ensures) brought in
+    record {
+      lawful = w.lawful;
+      kind = keeps.kind ∙ w.kind;
+      blocks = blocks_keep (IsLawfulBlock table) c.args.desk.now.inbox copied.copied.block c.put.new.self keeps w.blocks lawful;
+      entries = w.entries;
+      hashed = w.hashed;
+      values = w.values;
+      seats = w.seats;
+      opened = w.opened;
+      split = w.split;
+    }
 
 pub returns-in_ok-answer-in-NewBlock-clause-heard : goal.returns-in_ok-answer-in-NewBlock-clause-heard
 returns-in_ok-answer-in-NewBlock-clause-heard c =
