@@ -1,24 +1,14 @@
--- What a run of a plan gives each position, and that it fits.
-use Rattle.std.specs.Prelude.{ℕ, zero, suc, ◌<◌, ◌≡◌, List, [], ◌∷◌, length, get_or, Option, Some, None, refl}
-use Rattle.std.proofs.Common.{sym, ◌∙◌, ap, subst, arith, ⊎_elim}
+-- What a run of a plan gives each position fits.
+use Rattle.std.specs.Prelude.{ℕ, ◌≡◌, List, length, get_or, Option, Some, None}
+use Rattle.std.proofs.Common.{sym, ◌∙◌, subst, arith, ⊎_elim}
 use Rattle.std.proofs.lemmas.Bool.{cases_lt}
-use Rattle.std.proofs.lemmas.List.{length_push, get_or_append_left, get_or_push, get_or_past}
+use Rattle.std.proofs.lemmas.List.{get_or_past}
 use Rattle.std.proofs.lemmas.Option.{none-some}
 use Rattle.txn_types.specs.declared.txn.Outcome.{Outcome}
-use Rattle.board_defs.specs.Closure.{Plan, IsLawfulPlan, known_at, closure, unless_known, run_outcome, run_outcomes, run_outcomes_upto}
+use Rattle.board_defs.specs.Closure.{Plan, IsLawfulPlan, known_at, closure, unless_known, run_outcome, run_outcomes}
+use Rattle.trace_laws.proofs.RunOutcomes.{length_run_outcomes, run_outcomes_at}
 use Rattle.script_laws.proofs.Fitted.{outcome_fits}
 use Rattle.steal_pool.specs.Fitting.{AllFitAt}
-
-pub length_run : (plan : Plan) (n : ℕ) → length (run_outcomes_upto plan n) ≡ n
-length_run plan zero = refl
-length_run plan (suc n) = omega (arith, length_push (run_outcomes_upto plan n) (run_outcome plan n), length_run plan n)
-
-pub run_at : (plan : Plan) (n t : ℕ) → t < n → get_or (run_outcomes_upto plan n) t None ≡ run_outcome plan t
-run_at plan zero t l = absurd (omega arith)
-run_at plan (suc n) t l = ⊎_elim
-    (λ e. get_or_append_left (run_outcomes_upto plan n) (run_outcome plan n ∷ []) None t (omega (arith, length_run plan n, e)) ∙ run_at plan n t e)
-    (λ e. let k : n ≡ t = omega arith in get_or_push (run_outcomes_upto plan n) (run_outcome plan n) None t (length_run plan n ∙ k) ∙ ap (run_outcome plan) k)
-    (cases_lt t n)
 
 -- what a run gives is what the closure has
 run_comes : (plan : Plan) (t : ℕ) (o : Outcome) → run_outcome plan t ≡ Some o → get_or (closure plan) t None ≡ Some o
@@ -30,8 +20,8 @@ run_comes plan t o = one (known_at plan t)
 
 pub runs_fit : (plan : Plan) → IsLawfulPlan plan → AllFitAt plan.txns (run_outcomes plan)
 runs_fit plan h t o e = ⊎_elim
-    (λ l. outcome_fits plan h t o l (run_comes plan t o (sym (run_at plan (length plan.txns) t l) ∙ e)))
-    (λ l. absurd (none-some o (sym (get_or_past (run_outcomes plan) t None (omega (arith, length_run plan (length plan.txns), l))) ∙ e)))
+    (λ l. outcome_fits plan h t o l (run_comes plan t o (sym (run_outcomes_at plan (length plan.txns) t l) ∙ e)))
+    (λ l. absurd (none-some o (sym (get_or_past (run_outcomes plan) t None (omega (arith, length_run_outcomes plan (length plan.txns), l))) ∙ e)))
     (cases_lt t (length plan.txns))
 
 -- of equal outcomes too
