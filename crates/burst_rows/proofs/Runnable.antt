@@ -1,16 +1,11 @@
 -- A plan can be run where each of its positions is known well or not at all.
-use Rattle.std.specs.Prelude.{◌≡◌, ◌<◌, ◌≤◌, ℕ, true, false, List, length, get_or, take, Option, Some, None, refl}
-use Rattle.std.specs.List.{All}
+use Rattle.std.specs.Prelude.{◌≡◌, ◌<◌, ◌≤◌, ℕ, true, false, length, get_or, take, Option, Some, None, refl}
 use Rattle.std.proofs.Common.{sym, ◌∙◌, ap, subst, arith, ⊎_elim}
 use Rattle.std.proofs.lemmas.Bool.{false≢true, cases_lt}
 use Rattle.std.proofs.lemmas.List.{get_or_past}
-use Rattle.std.proofs.lemmas.List.Elements.{All-nil}
-use Rattle.txn_types.specs.declared.block.Config.{Config}
 use Rattle.txn_types.specs.declared.txn.Outcome.{Outcome}
-use Rattle.txn_types.specs.declared.txn.Txn.{Txn}
 use Rattle.txn_types.specs.Values.{AreValues}
-use Rattle.oxii_defs.specs.Table.{Table, IsLawfulTxn}
-use Rattle.oxii_defs.specs.Lawful.{IsLawfulTable, IsLawfulBody}
+use Rattle.oxii_defs.specs.Lawful.{IsLawfulTable}
 use Rattle.oxii_defs.specs.Chain.{IsLawfulBlock}
 use Rattle.oxii_defs.specs.Dependency.{graph_of}
 use Rattle.known_defs.specs.Known.{txn_at, knows_all}
@@ -18,11 +13,8 @@ use Rattle.txn_core.specs.MeantTable.{table_of}
 use Rattle.txn_core.proofs.StateLemmas.{state_of-values}
 use Rattle.board_work.specs.declared.plan.Plan.{Plan}
 use Rattle.board_work.specs.Plans.{IsRunnable}
+use Rattle.node_laws.proofs.LawfulBlockLemmas.{block_txns}
 use Rattle.burst_rows.specs.Standing.{CanStand, IsKnownWell}
-
-block_txns : (table : Table) (txns : List Txn) (config : Option Config) → IsLawfulBody table txns config → All (IsLawfulTxn table) txns
-block_txns table txns None h = h.1
-block_txns table txns (Some c) h = subst (λ (ts : List Txn). All (IsLawfulTxn table) ts) (sym h.0) (All-nil (IsLawfulTxn table))
 
 pub runnable : (p : Plan) → IsLawfulTable (table_of p.table.now) → IsLawfulBlock (table_of p.table.now) p.block.now → length p.block.now.txns ≤ 256
     → p.graph.now.preds ≡ graph_of p.table.now.kind p.block.now.txns → p.graph.now.kind ≡ p.table.now.kind → AreValues p.base.now → length p.base.now ≡ length p.table.now.records
@@ -32,7 +24,7 @@ runnable p table block few lists kind values base known own stand = record {
   plan = record {
     table = table;
     few = few;
-    txns = block_txns (table_of p.table.now) p.block.now.txns p.block.now.config block;
+    txns = block_txns (table_of p.table.now) p.block.now block;
     base = state_of-values p.base.now values;
     known_long = known;
     own_long = own;
