@@ -25,4 +25,4 @@ returns-in-Ok-Some-clause-too_long g c command bytes says told long read =
 
 pub returns-in-Ok-Some-clause-serial : goal.returns-in-Ok-Some-clause-serial
 returns-in-Ok-Some-clause-serial g c ok workers traced says =
-    serial_headline workers traced _ _ _ _ (subst (λ (k : Command). IsHeadline k (g.S.Source.rest c.args.source.now) (g.S.Source.rest c.run_command.new.source) (g.K.Sink.written c.args.sink.now) (g.K.Sink.written c.run_command.new.sink)) (sym (one_command _ (Run workers traced) c.in-Ok-Some.command says c.in-Ok-Some.ensures)) (c.run_command.ensures.ok ok))
+    serial_headline workers traced _ _ _ _ (subst (λ (k : Command). IsHeadline k (g.S.Source.rest c.args.source.now) (g.S.Source.rest c.run_command.new.source) (g.K.Sink.written c.args.sink.now) (g.K.Sink.written c.run_command.new.sink)) (sym (one_command _ (Run workers traced) c.in-Ok-Some.command says (rw c.in-Ok-Some.field-0-is at c.in-Ok-Some.ensures.says))) (c.run_command.ensures.ok ok))
