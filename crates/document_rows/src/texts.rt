@@ -9,6 +9,7 @@ use crate::{Trouble, answer};
 use std::alloc::Global;
 use std::thread::Threads;
 
+#[derive(Clone, Copy)]
 struct Section<'a> {
     head: &'a str,
     document: &'a str,
