@@ -1,3 +1,5 @@
+//! What is to be run of a block, and what a run came to.
+
 use txn_core::{Graph, Table};
 use txn_types::{Block, GrowingList, Known, Values};
 

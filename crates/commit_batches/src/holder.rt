@@ -1,3 +1,5 @@
+//! The results of one block that are held back until a cut or a flush.
+
 ghost use Rattle.std.specs.Prelude.{◌≡◌, [], OnOk, OnErr, IfOk};
 ghost use Rattle.commit_batches.specs.Held.{IsFor, Hold, Cut, emptied, handed_at, held_behind};
 

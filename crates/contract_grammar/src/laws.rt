@@ -1,3 +1,5 @@
+//! Laws of tokens, trees and readings.
+
 ghost use Rattle.contract_grammar.specs.Laws.{TokensAreMeant, SentencesHaveOneTree, ReadingsAreMeant, ReadingsAreDetermined, TalliesCount};
 
 /// The tokens of a text lie behind one another in it, with spaces between them, and each is as long as it can be.

@@ -1,3 +1,5 @@
+//! The next token of a text, each as long as it can be.
+
 ghost use Rattle.std.specs.Prelude.{◌≡◌, ◌<◌, ◌≤◌, ◌+◌, [], ◌∷◌, IfOk, IsTrue, drop, length, min, take};
 ghost use Rattle.std.specs.List.{All};
 ghost use Rattle.txn_types.specs.Names.{BeginsLower, IsNameByte};

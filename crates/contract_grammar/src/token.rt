@@ -1,3 +1,5 @@
+//! The tokens of the contract language, in their places.
+
 use txn_types::Name;
 
 /// What stands between two operands.

@@ -1,3 +1,5 @@
+//! Operations as they are read: names and kinds are not looked up yet.
+
 use crate::token::Operator;
 use txn_types::{GrowingList, Name};
 

@@ -1,3 +1,5 @@
+//! Expressions, with the fewest parentheses.
+
 ghost use Rattle.std.specs.Prelude.{◌≡◌, ◌≤◌, OnOk, map};
 ghost use Rattle.contract_grammar.specs.Grammar.{level, left_level};
 ghost use Rattle.txn_core.specs.Meant.{operator_of, comparison_of, formal_of, expr_of, cond_of};

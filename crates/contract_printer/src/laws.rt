@@ -1,3 +1,5 @@
+//! Laws of canonical texts.
+
 ghost use Rattle.contract_printer.specs.Laws.{ContractsHaveOneCanonicalText, CanonicalTextsAreShortest, CanonicalTextsHaveTheirTokens, CanonicalTextsReadAsTheirContracts};
 
 /// Texts that are one contract have one canonical text.

@@ -1,3 +1,5 @@
+//! Operations: name, parameters and block.
+
 ghost use Rattle.std.specs.Prelude.{◌≡◌, ◌≤◌, ℕ, List, length, IfOk, OnOk, map};
 ghost use Rattle.txn_core.specs.Meant.{kind_of, formal_of, op_of};
 ghost use Rattle.contract_text.specs.TextMeaning.{IsContract};

@@ -1,3 +1,5 @@
+//! A text of tokens, with a space only where two would run into one.
+
 ghost use Rattle.std.specs.Prelude.{◌≡◌, ◌++◌, ◌&&◌, false, OnOk};
 ghost use Rattle.contract_grammar.specs.declared.token.Token.TheVariants as token;
 ghost use Rattle.contract_printer.specs.Canonical.{is_word_operator, is_word_mark, operator_text, mark_text, space};

@@ -1,3 +1,5 @@
+//! Statements and blocks.
+
 ghost use Rattle.std.specs.Prelude.{◌≡◌, [], ◌∷◌, ◌++◌, OnOk, map};
 ghost use Rattle.contract_grammar.specs.declared.token.Mark.TheVariants.{Semicolon};
 ghost use Rattle.contract_grammar.specs.declared.token.Token.TheVariants.{Fixed};

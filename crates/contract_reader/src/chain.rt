@@ -1,3 +1,5 @@
+//! Chains of operators: whether the 33rd of one was read.
+
 ghost use Rattle.std.specs.Prelude.{◌≡◌, nat_le};
 ghost use Rattle.contract_grammar.specs.Tree.{tree};
 ghost use Rattle.contract_grammar.specs.Limits.{chain_length, is_chain};

@@ -1,3 +1,5 @@
+//! What is counted over the tokens, for the limits.
+
 ghost use Rattle.std.specs.Prelude.{◌≡◌, ◌≤◌, ◌<◌, ◌+◌, ◌*◌, ◌^◌, ◌||◌, OnOk, nat_lt};
 ghost use Rattle.txn_types.specs.Values.{max_turns};
 ghost use Rattle.contract_grammar.specs.Limits.{ops_after, begun_after, commas_after, parentheses_after, previous_after, factor, product_in, locals_in, with_local, without_first, scopes_after, tallied, no_tally, is_large, is_long_name, is_bad_count, is_deep, is_further_name, is_further_op, is_far, passes};

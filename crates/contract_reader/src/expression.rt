@@ -1,3 +1,5 @@
+//! How the next token goes on with an expression.
+
 ghost use Rattle.std.specs.Prelude.{◌≡◌, ◌≤◌, IfOk, option_map};
 ghost use Rattle.contract_grammar.specs.Tree.{tree, first, begun_at};
 ghost use Rattle.contract_grammar.specs.Grammar.{level, left_level};

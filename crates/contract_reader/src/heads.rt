@@ -1,3 +1,5 @@
+//! How the next token goes on with the head of an operation.
+
 ghost use Rattle.std.specs.Prelude.{◌≡◌, IfOk};
 ghost use Rattle.contract_grammar.specs.Tree.{operations};
 ghost use Rattle.contract_grammar.specs.Grammar.{parameter};

@@ -1,3 +1,5 @@
+//! The reading of a contract's text, token by token.
+
 ghost use Rattle.std.specs.Prelude.{◌≡◌, ◌≤◌, IfErr, IfOk, length};
 ghost use Rattle.contract_grammar.specs.Tree.{operations};
 ghost use Rattle.contract_grammar.specs.Lexer.{tokens};

@@ -1,3 +1,5 @@
+//! What a reader waits for, and what is open.
+
 ghost use Rattle.std.specs.Prelude.{◌≡◌};
 ghost use Rattle.contract_reader.specs.declared.state.Refusal.TheVariants.{OutOfMemory as out_of_memory};
 

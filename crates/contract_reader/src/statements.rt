@@ -1,3 +1,5 @@
+//! How the next token goes on with a statement.
+
 ghost use Rattle.std.specs.Prelude.{◌≡◌, [], ◌∷◌, Some, OnOk, option_map};
 ghost use Rattle.contract_grammar.specs.Tree.{tree, nil, statement, statements, operations};
 ghost use Rattle.contract_grammar.specs.Expressions.{want};

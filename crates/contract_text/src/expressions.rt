@@ -1,3 +1,5 @@
+//! Expressions, typed.
+
 ghost use Rattle.std.specs.Prelude.{◌≡◌, ◌≤◌, IfOk, length, option_map};
 ghost use Rattle.contract_grammar.specs.Tree.{tree};
 ghost use Rattle.txn_core.specs.Meant.{operator_of, comparison_of, expr_of, cond_of};

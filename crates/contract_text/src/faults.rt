@@ -1,3 +1,5 @@
+//! A contract, and why a text is none.
+
 use txn_core::Ops;
 
 /// A contract: its operations, in the order of the text.

@@ -1,3 +1,5 @@
+//! The first flaw of an expression.
+
 ghost use Rattle.std.specs.Prelude.{◌≡◌, ◌≤◌, length};
 ghost use Rattle.contract_grammar.specs.Tree.{tree};
 ghost use Rattle.contract_text.specs.Flaws.{noted, expr_flaws};

@@ -1,3 +1,5 @@
+//! Flaws of names and kinds, of which the first is kept.
+
 ghost use Rattle.std.specs.Prelude.{◌≡◌, [], ◌∷◌};
 ghost use Rattle.contract_text.specs.Flaws.{rank, is_before, earlier, noted, flaw, kind_flaws, operand_kind, result_kind};
 

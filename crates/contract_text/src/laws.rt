@@ -1,3 +1,5 @@
+//! Laws of verdicts and of accepted contracts.
+
 ghost use Rattle.contract_text.specs.Laws.{LimitsBoundOperations, VerdictsAreMeant, AcceptedContractsAreLawful};
 
 /// What the tokens of a contract keep to is kept by its operations.

@@ -1,3 +1,5 @@
+//! Operations, typed.
+
 ghost use Rattle.std.specs.Prelude.{◌≡◌, ◌++◌, IfOk, OnOk, map};
 ghost use Rattle.std.specs.List.{All};
 ghost use Rattle.contract_grammar.specs.Tree.{operation, operations};

@@ -1,3 +1,5 @@
+//! From a contract's text to its typed operations, or its first fault.
+
 ghost use Rattle.std.specs.Prelude.{◌≡◌, ◌≤◌, IfErr, IfOk, length, map};
 ghost use Rattle.std.specs.List.{All};
 ghost use Rattle.contract_grammar.specs.Tree.{operation, operations};

@@ -1,3 +1,5 @@
+//! Statements and blocks, typed.
+
 ghost use Rattle.std.specs.Prelude.{◌≡◌, ◌≤◌, ◌++◌, IfOk, OnOk, length, map, take};
 ghost use Rattle.contract_grammar.specs.Tree.{tree, statement, statements};
 ghost use Rattle.txn_core.specs.Meant.{expr_of, cond_of, stmt_of};

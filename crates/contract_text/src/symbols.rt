@@ -1,3 +1,5 @@
+//! What names stand for.
+
 ghost use Rattle.std.specs.Prelude.{◌≡◌, ◌+◌, ◌≤◌, length};
 ghost use Rattle.txn_core.specs.Checked.{is_named};
 ghost use Rattle.contract_text.specs.Symbols.{parameter_symbol, among_params, among_locals, symbol_of};

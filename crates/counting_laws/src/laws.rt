@@ -1,3 +1,5 @@
+//! Laws of the first of each sender, and of the first to reach a count.
+
 ghost use Rattle.counting_laws.specs.Laws.{SendersStay, ReachedStays};
 
 /// Dropping all but the first of each sender loses no sender.

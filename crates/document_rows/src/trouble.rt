@@ -1,3 +1,5 @@
+//! Why a row can't be told.
+
 use std::alloc::{AllocError, AllocFailed};
 use std::str::Utf8Error;
 use txn_types::OutOfMemory;

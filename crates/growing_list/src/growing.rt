@@ -1,3 +1,5 @@
+//! Lists that grow on the heap.
+
 ghost use Rattle.std.specs.Prelude.{◌≡◌, ◌≤◌, ◌<◌, [], ◌∷◌, ◌++◌, length, slice_set, OnOk, OnErr, MatchOption};
 ghost use Rattle.std.specs.List.{insert};
 

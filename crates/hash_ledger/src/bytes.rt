@@ -1,3 +1,5 @@
+//! The bytes of a block.
+
 ghost use Rattle.std.specs.Prelude.{◌≡◌, ◌<◌, ◌≤◌, ◌++◌, ◌∷◌, [], List, ℕ, Option, Some, None, length, map, OnOk, IfOk};
 ghost use Rattle.std.specs.List.{All, flat_map};
 ghost use Rattle.oxii_defs.specs.Table.{IsLawfulTxn, IsRecord, IsKnown};

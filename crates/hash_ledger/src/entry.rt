@@ -1,3 +1,5 @@
+//! An entry of a ledger.
+
 use txn_types::{Block, Outcomes};
 
 /// A block of a ledger, with the outcome of each of its transactions and its hash.

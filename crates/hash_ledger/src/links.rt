@@ -1,3 +1,5 @@
+//! Bodies, numbered and linked by their hashes.
+
 ghost use Rattle.std.specs.Prelude.{◌≡◌, ◌<◌, ◌^◌, ◌+◌, ◌++◌, ◌∷◌, [], length, IfOk};
 ghost use Rattle.std.specs.List.{All};
 ghost use Rattle.oxii_defs.specs.Chain.{chain, IsLawfulBlock};

@@ -1,3 +1,5 @@
+//! What a document says.
+
 use txn_core::Table;
 use txn_types::{CutLimits, Events, ItemList, NodeSet, Values};
 

@@ -1,3 +1,5 @@
+//! Lists by key, in an ordered map.
+
 ghost use Rattle.std.specs.Prelude.{◌≡◌, [], OnOk, OnErr};
 ghost use Rattle.std.specs.Ordering.{eq_by_cmp};
 ghost use Rattle.keyed_lists.specs.Keyed.{IsPushed, list_at};

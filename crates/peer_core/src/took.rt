@@ -1,3 +1,5 @@
+//! What one delivery came to.
+
 use peer_laws::Note;
 use peer_turns::BlockSpansList;
 use txn_types::Commits;

@@ -1,3 +1,5 @@
+//! The peers, as those whose votes count.
+
 ghost use Rattle.std.specs.Prelude.{◌≡◌, ◌≤◌};
 ghost use Rattle.node_defs.specs.World.{count_from};
 

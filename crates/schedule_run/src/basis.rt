@@ -1,3 +1,5 @@
+//! What stays as it is in a world.
+
 use crate::start::Hashes;
 use txn_core::Table;
 use txn_types::{Admitted, NodeSet};

@@ -1,3 +1,5 @@
+//! A message of the pool and its sender.
+
 ghost use Rattle.std.specs.Prelude.{◌≡◌};
 
 use std::marker::Model;

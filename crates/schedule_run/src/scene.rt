@@ -1,3 +1,5 @@
+//! What events move in a world.
+
 use crate::letter::Letter;
 use peer_core::Peer;
 use txn_types::GrowingList;

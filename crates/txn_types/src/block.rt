@@ -1,3 +1,5 @@
+//! Blocks, their bodies, and configurations.
+
 ghost use Rattle.std.specs.Prelude.{◌≡◌};
 
 use crate::{GrowingList, PeerSet, Txn};

@@ -1,3 +1,5 @@
+//! Copies that can want memory.
+
 ghost use Rattle.std.specs.Prelude.{◌≡◌, ◌∷◌, ◌++◌, [], take, IfOk};
 
 use crate::{Block, Body, Commit, Config, GrowingList, NewBlock, OutOfMemory, Outcome, Txn, Vote};

@@ -1,3 +1,5 @@
+//! The events of a schedule.
+
 use crate::{Commit, GrowingList, Node, Preds};
 
 /// Places of items in the stream, from 0.

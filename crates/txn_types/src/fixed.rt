@@ -1,3 +1,5 @@
+//! Lists of a fixed size.
+
 ghost use Rattle.std.specs.Prelude.{◌≡◌, ◌≤◌, ◌<◌, ◌+◌, [], ◌∷◌, ◌++◌, length};
 
 use arrayvec::ArrayVec;

@@ -1,3 +1,5 @@
+//! Nodes, and the messages that they send.
+
 ghost use Rattle.std.specs.Prelude.{◌≡◌};
 ghost use Rattle.txn_types.specs.Nodes.{rank_of};
 

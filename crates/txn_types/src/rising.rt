@@ -1,3 +1,5 @@
+//! Strictly rising lists of a fixed size.
+
 ghost use Rattle.std.specs.Prelude.{◌≡◌, ◌≤◌, ◌<◌, ℕ, [], ◌∷◌, ◌++◌, length, map};
 ghost use Rattle.txn_types.specs.Rising.{IsRising};
 

@@ -1,3 +1,5 @@
+//! The agreed stream: requests, marks and configurations, and what they carry.
+
 use crate::{Arg, Config, GrowingList, Name, Txn};
 
 /// The arguments of a request, of any count.

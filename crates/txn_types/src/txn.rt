@@ -1,3 +1,5 @@
+//! Transactions, and their outcomes.
+
 ghost use Rattle.std.specs.Prelude.{◌≡◌};
 ghost use Rattle.txn_types.specs.Fitting.{fit_entries, is_fit};
 

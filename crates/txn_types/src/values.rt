@@ -1,3 +1,5 @@
+//! The values of records, and the greatest numbers.
+
 ghost use Rattle.std.specs.Prelude.{◌≡◌, ◌≤◌, ◌<◌, [], ◌∷◌, ◌++◌, length, slice_set, OnOk, OnErr, IfOk, MatchOption};
 ghost use Rattle.std.specs.List.{All};
 ghost use Rattle.txn_types.specs.Values.{IsValue, AreValues};

@@ -1,3 +1,5 @@
+//! The spans of one block that ran in a delivery.
+
 use peer_core::BlockSpans;
 use txn_types::GrowingList;
 
