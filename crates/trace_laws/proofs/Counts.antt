@@ -3,15 +3,13 @@ use Rattle.std.specs.Prelude.{ℕ, zero, suc, ◌≡◌, ◌<◌, ◌≤◌, ◌
 use Rattle.std.proofs.Common.{◌∙◌, ap, inl, inr, arith}
 use Rattle.std.proofs.lemmas.Bool.{eqb-true}
 use Rattle.std.proofs.lemmas.Bool.Decides.{nat_tests}
-use Rattle.std.proofs.lemmas.List.Sums.{sum_by-cons, sum_by-append, count_by-le-length}
+use Rattle.std.proofs.lemmas.List.Sums.{sum_by-append, count_by-le-length}
+use Rattle.node_defs.proofs.CountingLemmas.{count_by-cons}
 use Rattle.board_defs.specs.Trace.{Span, stamps, raised_span}
 use Rattle.trace_laws.proofs.Members.{Has}
 
 abbrev pub times : ℕ → List ℕ → ℕ
 times k xs = count_by (λ x. x == k) xs
-
-pub count_cons : {A : Type 0} (p : A → Bool) (y : A) (ys : List A) → count_by p (y ∷ ys) ≡ cond (p y) 1 0 + count_by p ys
-count_cons p y ys = sum_by-cons (λ x. cond (p x) 1 0) y ys
 
 pub times_append : (k : ℕ) (xs ys : List ℕ) → times k (xs ++ ys) ≡ times k xs + times k ys
 times_append k xs ys = sum_by-append (λ x. cond (x == k) 1 0) xs ys
@@ -22,7 +20,7 @@ absent k (x ∷ xs) f = one (x == k) refl (absent k xs (λ y h. f y (inr h)))
   where
     one : (b : Bool) → (x == k) ≡ b → times k xs ≡ 0 → times k (x ∷ xs) ≡ 0
     one true e h = absurd (f x (inl refl) (eqb-true x k e))
-    one false e h = let c = count_cons (λ y. y == k) x xs in let d : ◌≡◌ {A = ℕ} (cond (x == k) 1 0) 0 = ap (λ b. cond b 1 0) e in omega arith
+    one false e h = let c = count_by-cons (λ y. y == k) x xs in let d : ◌≡◌ {A = ℕ} (cond (x == k) 1 0) 0 = ap (λ b. cond b 1 0) e in omega arith
 
 -- all pass, where as many pass as there are
 pub all_pass : {A : Type 0} (p : A → Bool) (xs : List A) → length xs ≤ count_by p xs → (x : A) → Has x xs → p x ≡ true
@@ -31,8 +29,8 @@ all_pass {A} p (y ∷ ys) l x h = one (p y) refl h (λ m. all_pass p ys m x)
   where
     one : (b : Bool) → p y ≡ b → Has x (y ∷ ys) → (length ys ≤ count_by p ys → Has x ys → p x ≡ true) → p x ≡ true
     one true e (inl i) more = ap p i ∙ e
-    one true e (inr i) more = let c = count_cons p y ys in let d : ◌≡◌ {A = ℕ} (cond (p y) 1 0) 1 = ap (λ b. cond b 1 0) e in more (omega arith) i
-    one false e i more = let c = count_cons p y ys in let d : ◌≡◌ {A = ℕ} (cond (p y) 1 0) 0 = ap (λ b. cond b 1 0) e in let m = count_by-le-length p ys in absurd (omega arith)
+    one true e (inr i) more = let c = count_by-cons p y ys in let d : ◌≡◌ {A = ℕ} (cond (p y) 1 0) 1 = ap (λ b. cond b 1 0) e in more (omega arith) i
+    one false e i more = let c = count_by-cons p y ys in let d : ◌≡◌ {A = ℕ} (cond (p y) 1 0) 0 = ap (λ b. cond b 1 0) e in let m = count_by-le-length p ys in absurd (omega arith)
 
 one_more : (m x : ℕ) → ◌≡◌ {A = ℕ} (cond (nat_lt x (suc m)) 1 0) (cond (nat_lt x m) 1 0 + cond (x == m) 1 0)
 one_more m x = grind (arith, nat_tests)
@@ -40,7 +38,7 @@ one_more m x = grind (arith, nat_tests)
 count_below : (m : ℕ) (xs : List ℕ) → count_by (λ x. nat_lt x (suc m)) xs ≡ count_by (λ x. nat_lt x m) xs + times m xs
 count_below m [] = refl
 count_below m (x ∷ xs) =
-    let a = count_cons (λ y. nat_lt y (suc m)) x xs in let b = count_cons (λ y. nat_lt y m) x xs in let c = count_cons (λ y. y == m) x xs in
+    let a = count_by-cons (λ y. nat_lt y (suc m)) x xs in let b = count_by-cons (λ y. nat_lt y m) x xs in let c = count_by-cons (λ y. y == m) x xs in
     let d = one_more m x in let e = count_below m xs in omega arith
 
 -- m stamps, each once, fill m places
@@ -55,7 +53,7 @@ length_stamps [] = refl
 length_stamps (s ∷ rest) = let h = length_stamps rest in omega arith
 
 pub times_span : (k : ℕ) (s : Span) (rest : List Span) → times k (stamps (s ∷ rest)) ≡ cond (s.begin == k) 1 0 + (cond (s.finish == k) 1 0 + times k (stamps rest))
-times_span k s rest = count_cons (λ x. x == k) s.begin (s.finish ∷ stamps rest) ∙ ap (λ n. cond (s.begin == k) 1 0 + n) (count_cons (λ x. x == k) s.finish (stamps rest))
+times_span k s rest = count_by-cons (λ x. x == k) s.begin (s.finish ∷ stamps rest) ∙ ap (λ n. cond (s.begin == k) 1 0 + n) (count_by-cons (λ x. x == k) s.finish (stamps rest))
 
 pub stamps_append : (k : ℕ) (xs ys : List Span) → times k (stamps (xs ++ ys)) ≡ times k (stamps xs) + times k (stamps ys)
 stamps_append k [] ys = omega arith
