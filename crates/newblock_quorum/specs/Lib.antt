@@ -6,5 +6,6 @@ pub use Rattle.node_defs.specs.Accepted
 pub use Rattle.oxii_defs.specs.Dependency
 pub use Rattle.txn_core.specs.Graphs
 pub use Rattle.keyed_lists.specs.Keyed
+pub mod Counted
 pub mod Entries
 pub mod Newblocks

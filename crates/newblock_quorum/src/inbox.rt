@@ -1,15 +1,20 @@
-ghost use Rattle.std.specs.Prelude.{◌≡◌, ◌≤◌, [], ◌∷◌, length, Contains, OnOk, OnErr, IfOk, IfSome};
-ghost use Rattle.std.specs.List.{All};
+//! An inbox of NEWBLOCKs.
+
+ghost use Rattle.std.specs.Prelude.{◌≡◌, ◌≢◌, ◌≤◌, ◌↔◌, [], ◌∷◌, length, option_copied, Contains, IsNone, OnOk, OnErr, IfOk, IfSome};
+ghost use Rattle.std.specs.List.{All, find};
 ghost use Rattle.std.specs.Option.{option_map};
+ghost use Rattle.oxii_defs.specs.Dependency.{graph_of};
 ghost use Rattle.node_defs.specs.Accepted.{accepted};
 ghost use Rattle.node_defs.specs.Log.{Log};
 ghost use Rattle.node_defs.specs.Rules.{Rules};
+ghost use Rattle.node_defs.specs.Same.{same_block};
 ghost use Rattle.txn_core.specs.Graphs.{IsGraphOf};
 ghost use Rattle.newblock_quorum.specs.Entries.{HasGraph, IsBehindNewBlock, IsKeptFor, KeepsWith, answer_in_inbox, blocks_of, has_sent, received_for};
 ghost use Rattle.newblock_quorum.specs.Newblocks.{InboxStandsFor, answer_to_newblock, letter_of, orderer_of};
 
 use crate::entry::{NewBlockPut, Received};
 use crate::linked::LinkedBlocks;
+use crate::lists::has_lists;
 use counting_laws::first_to_reach;
 use keyed_lists::KeyedLists;
 use std::alloc::Global;
@@ -48,7 +53,13 @@ pub struct Ready<'a> {
 fn has_entry(received: &[Received], orderer: u8) -> bool
     ensures { result ≡ has_sent orderer received.now }
 {
-    received.iter().any(|e| e.orderer == orderer)
+    received.iter().any(|e| e.orderer() == orderer)
+}
+
+fn with_block<'a>(received: &'a [Received], block: &Block) -> Option<&'a Received>
+    ensures { option_copied result ≡ find (λ e. same_block e.block block.now) received.now }
+{
+    received.iter().find(|e| e.carries(block))
 }
 
 impl Inbox {
@@ -89,11 +100,10 @@ impl Inbox {
         let Some(orderer) = self.orderer(from) else {
             return Ok(NewBlockPut::Stranger);
         };
-        let NewBlock { block, preds } = msg;
-        let Some(graph) = Graph::checked(&block, self.kind, preds) else {
+        let Some(entry) = self.entry(alloc, orderer, msg)? else {
             return Ok(NewBlockPut::WrongGraph);
         };
-        let put = self.count(alloc, orderer, block, graph)?;
+        let put = self.count(alloc, entry)?;
         Ok(put)
     }
 
@@ -111,8 +121,8 @@ impl Inbox {
         let received = self.received(n);
         let entry = first_to_reach(&sought, self.quorum, received)?;
         Some(Ready {
-            block: &entry.block,
-            graph: &entry.graph,
+            block: entry.block(),
+            graph: entry.graph(),
         })
     }
 
@@ -134,28 +144,54 @@ impl Inbox {
         self.entries.at(&n)
     }
 
-    fn count(
-        &mut self,
+    /// A counted NEWBLOCK with this block, where there is one.
+    fn held(&self, block: &Block) -> Option<&Received>
+        ensures held { option_copied result ≡ find (λ e. same_block e.block block.now) (received_for block.now.number self.now.entries) }
+        ensures block { IfSome result (λ e. e.now.block ≡ block.now) }
+        ensures graph { IfSome result (λ e. HasGraph self.now.kind e.now) }
+    {
+        with_block(self.received(block.number), block)
+    }
+
+    /// The entry that a NEWBLOCK of an orderer would be, if its lists are the block's graph. A content that is held is shared.
+    fn entry(
+        &self,
         alloc: Global,
         orderer: u8,
-        block: Block,
-        graph: Graph,
-    ) -> Result<NewBlockPut, OutOfMemory>
-        requires { HasGraph self.old.kind (record { orderer = orderer; block = block; graph = graph }) }
-        ensures answer { IfOk result (λ put. put ≡ answer_in_inbox orderer (received_for block.number self.old.entries)) }
-        ensures kept { OnOk result (IsBehindNewBlock self.old orderer block graph self.new) }
+        msg: NewBlock,
+    ) -> Result<Option<Received>, OutOfMemory>
+        requires { length msg.block.txns ≤ 256 }
+        ensures none { IfOk result (λ r. IsNone r ↔ (msg.preds ≢ graph_of self.now.kind msg.block.txns)) }
+        ensures orderer { IfOk result (λ r. IfSome r (λ e. e.orderer ≡ orderer)) }
+        ensures block { IfOk result (λ r. IfSome r (λ e. e.block ≡ msg.block)) }
+        ensures graph { IfOk result (λ r. IfSome r (HasGraph self.now.kind)) }
+    {
+        let NewBlock { block, preds } = msg;
+        if let Some(held) = self.held(&block) {
+            if !has_lists(held.graph(), preds.as_slice()) {
+                return Ok(None);
+            }
+            let entry = held.shared(orderer)?;
+            return Ok(Some(entry));
+        }
+        let Some(graph) = Graph::checked(&block, self.kind, preds) else {
+            return Ok(None);
+        };
+        let entry = Received::new(alloc, orderer, block, graph)?;
+        Ok(Some(entry))
+    }
+
+    fn count(&mut self, alloc: Global, entry: Received) -> Result<NewBlockPut, OutOfMemory>
+        requires { HasGraph self.old.kind entry }
+        ensures answer { IfOk result (λ put. put ≡ answer_in_inbox entry.orderer (received_for entry.block.number self.old.entries)) }
+        ensures kept { OnOk result (IsBehindNewBlock self.old entry.orderer entry.block entry.graph self.new) }
         ensures err { OnErr result (self.new ≡ self.old) }
     {
-        let n = block.number;
-        if has_entry(self.received(n), orderer) {
+        let n = entry.block().number;
+        if has_entry(self.received(n), entry.orderer()) {
             return Ok(NewBlockPut::Repeat);
         }
-        let received = Received {
-            orderer,
-            block,
-            graph,
-        };
-        self.entries.push(alloc, n, received)?;
+        self.entries.push(alloc, n, entry)?;
         Ok(NewBlockPut::Counted)
     }
 }

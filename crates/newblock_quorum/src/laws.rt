@@ -1,3 +1,5 @@
+//! What COMMITs leave.
+
 ghost use Rattle.newblock_quorum.specs.Newblocks.{CommitsLeaveIt};
 
 /// What an inbox stands for is the same with a COMMIT.

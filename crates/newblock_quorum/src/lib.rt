@@ -5,6 +5,7 @@ mod entry;
 mod inbox;
 mod laws;
 mod linked;
+mod lists;
 
 pub use entry::NewBlockPut;
 pub use inbox::{Inbox, Ready};

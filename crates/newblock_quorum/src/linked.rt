@@ -22,10 +22,10 @@ impl<'a> Tally for LinkedBlocks<'a> {
     ghost content = { λ e. e.block };
 
     fn counts(&self, entry: &Received) -> bool {
-        entry.block.prev == *self.prev
+        entry.block().prev == *self.prev
     }
 
     fn content<'b>(&self, entry: &'b Received) -> &'b Block {
-        &entry.block
+        entry.block()
     }
 }

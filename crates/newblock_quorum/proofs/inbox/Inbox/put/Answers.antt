@@ -1,35 +1,51 @@
-use Rattle.std.proofs.Common.{refl, sym, ◌∙◌, ap}
+use Rattle.std.proofs.Common.{ℕ, ◌≡◌, IsNone, IfSome, Option, Some, sym, subst, ◌∙◌, ap}
+use Rattle.std.specs.Option.{is_some}
 use Rattle.std.proofs.lemmas.Bool.{true≢false}
+use Rattle.txn_types.specs.declared.block.Block.{Block}
 use Rattle.oxii_defs.specs.Dependency.{graph_of}
-use Rattle.newblock_quorum.specs.Entries.{KeptNewBlocks}
-use Rattle.newblock_quorum.proofs.GraphLists.{same_lists, lists_differ, lists_are}
+use Rattle.newblock_quorum.specs.Entries.{IsBehindNewBlock, answer_in_inbox, received_for}
+use Rattle.newblock_quorum.proofs.GraphLists.{lists_differ, lists_are}
 use Rattle.newblock_quorum.proofs.NewblockLemmas.{counted_is, wrong_is, stands_wrong, stands_good}
 use Rattle.newblock_quorum.proofs.inbox.Inbox.put.Goals as goal
 
-pub returns-in_default-checked-clause-answer : goal.returns-in_default-checked-clause-answer
-returns-in_default-checked-clause-answer c = λ rules L stands.
+-- what there is isn't missing, and has what is said of it
+is_made : {A : Type 0} {o : Option A} {x : A} → o ≡ Some x → IsNone o → ⊥
+is_made made none = true≢false (sym (ap is_some made) ∙ none)
+
+at_some : {A : Type 0} (P : A → Type 0) {o : Option A} {x : A} → o ≡ Some x → IfSome o P → P x
+at_some {A} P made h = subst (λ (o : Option A). IfSome o P) made h
+
+pub returns-in_default-2-clause-answer : goal.returns-in_default-2-clause-answer
+returns-in_default-2-clause-answer c = λ rules L stands.
     let m = c.args.msg in
-    let here = sym (ap (λ (k : KeptNewBlocks). same_lists m.preds (graph_of k.kind m.block.txns)) c.self.view_is) in
-    let wrong = here ∙ lists_differ m.preds (graph_of c.self.inside.kind m.block.txns) (c.in_default-checked.ensures.none.0 refl) in
+    let wrong = lists_differ m.preds (graph_of c.args.self.now.kind m.block.txns) (c.in_ok-entry.ensures.none.0 (search (c.in_default-2.is))) in
     wrong_is c.args.self.now rules L c.args.from c.in-Some.orderer m stands (sym c.orderer.ensures ∙ c.in-Some.is) wrong
 
-pub returns-in_default-checked-clause-stands : goal.returns-in_default-checked-clause-stands
-returns-in_default-checked-clause-stands c = λ rules L stands.
+pub returns-in_default-2-clause-stands : goal.returns-in_default-2-clause-stands
+returns-in_default-2-clause-stands c = λ rules L stands.
     let m = c.args.msg in
-    let here = sym (ap (λ (k : KeptNewBlocks). same_lists m.preds (graph_of k.kind m.block.txns)) c.self.view_is) in
-    let wrong = here ∙ lists_differ m.preds (graph_of c.self.inside.kind m.block.txns) (c.in_default-checked.ensures.none.0 refl) in
+    let wrong = lists_differ m.preds (graph_of c.args.self.now.kind m.block.txns) (c.in_ok-entry.ensures.none.0 (search (c.in_default-2.is))) in
     stands_wrong c.args.self.now rules L c.args.from c.in-Some.orderer m stands (sym c.orderer.ensures ∙ c.in-Some.is) wrong
 
 pub returns-clause-answer : goal.returns-clause-answer
 returns-clause-answer c = λ rules L stands.
     let m = c.args.msg in
-    let here = sym (ap (λ (k : KeptNewBlocks). same_lists m.preds (graph_of k.kind m.block.txns)) c.self.view_is) in
-    let good = here ∙ lists_are m.preds (graph_of c.self.inside.kind m.block.txns) (λ differ. true≢false (c.in-Some-checked.ensures.none.1 differ)) in
-    c.in_ok-put.ensures.answer ∙ counted_is c.args.self.now rules L c.args.from c.in-Some.orderer m stands (sym c.orderer.ensures ∙ c.in-Some.is) good
+    let made = c.in-Some-2.is in
+    let good = lists_are m.preds (graph_of c.args.self.now.kind m.block.txns) (λ differ. is_made made (c.in_ok-entry.ensures.none.1 differ)) in
+    let who = at_some _ made c.in_ok-entry.ensures.orderer in
+    let block = at_some _ made c.in_ok-entry.ensures.block in
+    c.in_ok-put.ensures.answer
+    ∙ ((λ i. answer_in_inbox (who i) (received_for (block i).number c.args.self.now.entries))
+    ∙ counted_is c.args.self.now rules L c.args.from c.in-Some.orderer m stands (sym c.orderer.ensures ∙ c.in-Some.is) good)
 
 pub returns-clause-stands : goal.returns-clause-stands
 returns-clause-stands c = λ rules L stands.
     let m = c.args.msg in
-    let here = sym (ap (λ (k : KeptNewBlocks). same_lists m.preds (graph_of k.kind m.block.txns)) c.self.view_is) in
-    let good = here ∙ lists_are m.preds (graph_of c.self.inside.kind m.block.txns) (λ differ. true≢false (c.in-Some-checked.ensures.none.1 differ)) in
-    stands_good c.args.self.now c.count.new.self rules L c.args.from c.in-Some.orderer m c.in-Some-checked.graph stands (sym c.orderer.ensures ∙ c.in-Some.is) good c.in_ok-put.ensures.kept
+    let e = c.in-Some-2.entry in
+    let made = c.in-Some-2.is in
+    let good = lists_are m.preds (graph_of c.args.self.now.kind m.block.txns) (λ differ. is_made made (c.in_ok-entry.ensures.none.1 differ)) in
+    let who = at_some _ made c.in_ok-entry.ensures.orderer in
+    let block = at_some _ made c.in_ok-entry.ensures.block in
+    let kept = subst (λ (b : Block). IsBehindNewBlock c.args.self.now e.orderer b e.graph c.count.new.self) block c.in_ok-put.ensures.kept in
+    let counted = subst (λ (o : ℕ). IsBehindNewBlock c.args.self.now o m.block e.graph c.count.new.self) who kept in
+    stands_good c.args.self.now c.count.new.self rules L c.args.from c.in-Some.orderer m e.graph stands (sym c.orderer.ensures ∙ c.in-Some.is) good counted
