@@ -1,10 +1,11 @@
 -- Dependency and the graph, step by step.
-use Rattle.std.proofs.Common.{◌≡◌, ◌<◌, ◌≤◌, ◌+◌, ◌++◌, ℕ, zero, suc, Bool, true, false, cond, List, [], ◌∷◌, length, take, drop, get_or, refl, ap, subst, add-one, arith, length-append}
+use Rattle.std.proofs.Common.{◌≡◌, ◌<◌, ◌≤◌, ◌+◌, ◌-◌, ◌++◌, ◌↔◌, inl, inr, sym, ◌∙◌, append_assoc, ℕ, zero, suc, Bool, true, false, cond, List, [], ◌∷◌, length, take, drop, get_or, refl, ap, subst, add-one, arith, length-append}
 use Rattle.std.specs.List.{list_any, AllByRecursion, slice_index_or}
 use Rattle.std.proofs.lemmas.List.Elements.{All-from_recursion}
 use Rattle.txn_types.specs.Rising.{IsRising}
 use Rattle.txn_core.specs.Graphs.{ArePreds}
-use Rattle.std.proofs.lemmas.List.{drop_more, take_more, get_or_default}
+use Rattle.std.proofs.lemmas.List.{drop_more, drop_all, take_more, append-nil, get_or_default}
+use Rattle.std.proofs.lemmas.Bool.{cases_lt}
 use Rattle.txn_types.specs.declared.txn.Kind.{Kind}
 use Rattle.txn_types.specs.declared.txn.Txn.{Txn}
 use Rattle.oxii_defs.specs.State.{contains}
@@ -19,6 +20,39 @@ pub preds_more : (kind : Kind) (t : Txn) (xs : List Txn) (i : ℕ) (d : Txn) →
     preds_from kind t i (drop i xs)
     ≡ cond (depends kind (get_or xs i d) t) (i ∷ preds_from kind t (i + 1) (drop (i + 1) xs)) (preds_from kind t (i + 1) (drop (i + 1) xs))
 preds_more kind t xs i d below = rw (drop_more xs i d below, add-one i)
+
+-- no predecessor at a place, or past the end
+pub preds_past : (kind : Kind) (t : Txn) (xs : List Txn) (i : ℕ) → (i < length xs → depends kind (get_or xs i t) t ≡ false) →
+    preds_from kind t i (drop i xs) ≡ preds_from kind t (i + 1) (drop (i + 1) xs)
+preds_past kind t xs i none = elim (cases_lt i (length xs)) [
+  | inl lt ↦ preds_more kind t xs i t lt ∙ ap (λ b. cond b (i ∷ preds_from kind t (i + 1) (drop (i + 1) xs)) (preds_from kind t (i + 1) (drop (i + 1) xs))) (none lt)
+  | inr past ↦ ap (preds_from kind t i) (drop_all i xs past) ∙ sym (ap (preds_from kind t (i + 1)) (drop_all (i + 1) xs (omega arith)))
+]
+
+preds_skip : (kind : Kind) (t : Txn) (xs : List Txn) (i n : ℕ) → ((p : ℕ) → i ≤ p → p < i + n → p < length xs → depends kind (get_or xs p t) t ≡ false) →
+    preds_from kind t i (drop i xs) ≡ preds_from kind t (i + n) (drop (i + n) xs)
+preds_skip kind t xs i zero none = let e : i + 0 ≡ i = omega arith in ap (λ j. preds_from kind t j (drop j xs)) (sym e)
+preds_skip kind t xs i (suc n) none =
+    let e : i + 1 + n ≡ i + suc n = omega arith in
+    preds_past kind t xs i (none i (omega arith) (omega arith))
+    ∙ preds_skip kind t xs (i + 1) n (λ p from lt. none p (omega (arith, from)) (omega (arith, lt)))
+    ∙ ap (λ j. preds_from kind t j (drop j xs)) e
+
+-- no predecessor from one place up to another
+pub preds_until : (kind : Kind) (t : Txn) (xs : List Txn) (i j : ℕ) → i ≤ j → ((p : ℕ) → i ≤ p → p < j → p < length xs → depends kind (get_or xs p t) t ≡ false) →
+    preds_from kind t i (drop i xs) ≡ preds_from kind t j (drop j xs)
+preds_until kind t xs i j le none =
+    let e : i + (j - i) ≡ j = omega arith in
+    preds_skip kind t xs i (j - i) (λ p from lt. none p from (omega (arith, lt))) ∙ ap (λ k. preds_from kind t k (drop k xs)) e
+
+-- the list of a position is that of the places before it
+list_after : (kind : Kind) (before txns : List Txn) (t : ℕ) (d : Txn) → t < length txns → slice_index_or (graph_after kind before txns) t [] ≡ preds_from kind (get_or txns t d) 0 (before ++ take t txns)
+list_after kind before [] t d l = absurd (omega arith)
+list_after kind before (x ∷ xs) zero d l = ap (preds_from kind x 0) (sym (append-nil before))
+list_after kind before (x ∷ xs) (suc t) d l = list_after kind (before ++ x ∷ []) xs t d (omega arith) ∙ ap (preds_from kind (get_or xs t d) 0) (append_assoc before (x ∷ []) (take t xs))
+
+pub list_at : (kind : Kind) (txns : List Txn) (t : ℕ) (d : Txn) → t < length txns → slice_index_or (graph_of kind txns) t [] ≡ preds_from kind (get_or txns t d) 0 (take t txns)
+list_at kind txns t d = list_after kind [] txns t d
 
 -- one list more
 pub graph_more : (kind : Kind) (xs : List Txn) (j : ℕ) (d : Txn) → j < length xs →
@@ -84,3 +118,11 @@ graph_preds kind txns few = record {
   earlier = λ t lt. All-from_recursion (λ p. p < t) (slice_index_or (graph_of kind txns) t [])
       (below t (slice_index_or (graph_of kind txns) t []) (wider 0 (0 + t) 0 t (slice_index_or (graph_of kind txns) t []) (omega arith) (omega arith) (earlier_after kind [] txns t lt).1));
 }
+
+-- two lists are the same from a place on where they are from the next one
+pub lists_more : (xs ys : List (List ℕ)) (i : ℕ) → i < length xs → i < length ys → get_or xs i [] ≡ get_or ys i [] →
+    (drop i xs ≡ drop i ys) ↔ (drop (i + 1) xs ≡ drop (i + 1) ys)
+lists_more xs ys i lx ly same =
+    let ex = drop_more xs i [] lx in
+    let ey = drop_more ys i [] ly in
+    (λ e. cc (e, ex, ey), λ e. cc (e, ex, ey, same))

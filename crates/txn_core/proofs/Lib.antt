@@ -7,4 +7,5 @@ pub mod CheckLemmas
 pub mod CheckStepLemmas
 pub mod TableNames
 pub mod GraphLemmas
+pub mod TouchLemmas
 pub mod TableSync

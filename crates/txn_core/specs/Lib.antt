@@ -8,6 +8,7 @@ pub mod Checked
 pub mod CheckForms
 pub mod States
 pub mod Graphs
+pub mod Touching
 pub use Rattle.oxii_defs.specs.State
 pub use Rattle.oxii_defs.specs.WellFormed
 pub use Rattle.oxii_defs.specs.Table

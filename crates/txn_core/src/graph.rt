@@ -6,6 +6,7 @@ ghost use Rattle.txn_types.specs.Rising.{IsRising};
 ghost use Rattle.oxii_defs.specs.State.{contains};
 ghost use Rattle.oxii_defs.specs.Dependency.{meets, depends, preds_from, graph_of};
 
+use crate::earlier::{Earlier, PredsOf};
 use std::alloc::Global;
 use std::marker::Model;
 use txn_types::{Block, Copies, GrowingList, Kind, OutOfMemory, Preds, Recs, Txn};
@@ -145,26 +146,22 @@ fn is_graph(kind: Kind, txns: &[Txn], lists: &[GrowingList<u16>]) -> bool
     if lists.len() != txns.len() {
         return false;
     }
-    for j in 0..txns.len() {
-        if !are_preds(kind, &txns[..j], &txns[j], lists[j].as_slice()) {
+    let mut earlier = Earlier::new(txns);
+    for preds in lists {
+        if !are_left(earlier.preds(kind), preds.as_slice()) {
             return false;
         }
+        earlier.step();
     }
     true
 }
 
-// Whether these are the places of those that a transaction depends on.
-fn are_preds(kind: Kind, earlier: &[Txn], later: &Txn, preds: &[u16]) -> bool
-    ensures { IsTrue result ↔ (preds.now ≡ preds_from kind later.now 0 earlier.now) }
+// Whether these are the positions that are still to come.
+fn are_left(mut found: PredsOf, preds: &[u16]) -> bool
+    ensures { IsTrue result ↔ (preds.now ≡ found.entry) }
 {
-    let mut rest = preds;
-    for (i, txn) in earlier.iter().enumerate() {
-        if depends(kind, txn, later) {
-            match rest {
-                [first, others @ ..] if *first as usize == i => rest = others,
-                _ => return false,
-            }
-        }
-    }
-    rest.is_empty()
+    let [first, rest @ ..] = preds else {
+        return found.next().is_none();
+    };
+    found.next() == Some(*first) && are_left(found, rest)
 }

@@ -2,6 +2,7 @@
 #![tactic(auto)]
 
 mod check;
+mod earlier;
 mod eval;
 mod gate;
 mod graph;
@@ -12,8 +13,10 @@ mod scratch;
 mod serial;
 mod syntax;
 mod table;
+mod touches;
 
 pub use check::{is_well_formed, takes};
+pub use earlier::{Earlier, PredsOf};
 pub use gate::{FreeGate, Gate};
 pub use graph::{Graph, depends};
 pub use lengths::bytes_len;
