@@ -8,4 +8,5 @@ pub mod CheckStepLemmas
 pub mod TableNames
 pub mod GraphLemmas
 pub mod TouchLemmas
+pub mod SearchLemmas
 pub mod TableSync

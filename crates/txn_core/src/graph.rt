@@ -82,7 +82,7 @@ impl Graph {
         requires { t < length self.now.preds }
         ensures pred { result ≡ contains (slice_index_or self.now.preds t []) s }
     {
-        stands_in(s, self.preds(t))
+        self.preds(t).binary_search(&s).is_ok()
     }
 
     /// A copy of the lists, as a NEWBLOCK carries them.
