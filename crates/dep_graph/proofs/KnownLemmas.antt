@@ -1,13 +1,14 @@
 -- That all which a position depends on is known, told from its list of predecessors.
-use Rattle.std.specs.Prelude.{ℕ, zero, suc, ◌+◌, ◌<◌, ◌≤◌, ◌≡◌, Bool, true, false, not, ◌&&◌, ◌||◌, cond, List, [], ◌∷◌, ◌++◌, length, take, get_or, Option, None, is_some, refl}
+use Rattle.std.specs.Prelude.{ℕ, suc, ◌+◌, ◌<◌, ◌≤◌, ◌≡◌, Bool, true, false, not, ◌&&◌, ◌||◌, cond, List, [], ◌∷◌, length, take, get_or, Option, None, is_some, refl}
 use Rattle.std.specs.List.{list_all, slice_index_or}
-use Rattle.std.proofs.Common.{sym, ◌∙◌, ap, arith, append_assoc}
-use Rattle.std.proofs.lemmas.List.{append-nil, get_or-take, length-take-le}
+use Rattle.std.proofs.Common.{sym, ◌∙◌, ap, arith}
+use Rattle.std.proofs.lemmas.List.{get_or-take, length-take-le}
 use Rattle.txn_types.specs.declared.txn.Kind.{Kind}
 use Rattle.txn_types.specs.declared.txn.Txn.{Txn}
 use Rattle.txn_types.specs.declared.txn.Outcome.{Outcome}
-use Rattle.oxii_defs.specs.Dependency.{depends, preds_from, graph_after, graph_of}
-use Rattle.known_defs.specs.Known.{knows_all, txn_at}
+use Rattle.oxii_defs.specs.Dependency.{depends, preds_from, graph_of}
+use Rattle.known_defs.specs.Known.{knows_all, txn_at, no_txn}
+use Rattle.txn_core.proofs.GraphLemmas.{list_at}
 
 -- these positions are all known
 abbrev are_known : List (Option Outcome) → List ℕ → Bool
@@ -33,16 +34,10 @@ knows_by kind t i (a ∷ earlier) (x ∷ xs) known at =
     one false e more = more
     one true e more = ap (λ b. b && knows_all kind t earlier xs) (sym e) ∙ ap (λ r. is_some (get_or known i None) && r) more
 
--- the list of a position is that of the places before it
-list_at : (kind : Kind) (before txns : List Txn) (t : ℕ) → t < length txns → slice_index_or (graph_after kind before txns) t [] ≡ preds_from kind (txn_at txns t) 0 (before ++ take t txns)
-list_at kind before [] t l = absurd (omega arith)
-list_at kind before (x ∷ xs) zero l = ap (preds_from kind x 0) (sym (append-nil before))
-list_at kind before (x ∷ xs) (suc t) l = list_at kind (before ++ x ∷ []) xs t (omega arith) ∙ ap (preds_from kind (txn_at xs t) 0) (append_assoc before (x ∷ []) (take t xs))
-
 pub known_preds : (kind : Kind) (txns : List Txn) (t : ℕ) (known : List (Option Outcome)) (preds : List ℕ) → t < length txns → t ≤ length known → preds ≡ slice_index_or (graph_of kind txns) t [] →
     are_known known preds ≡ knows_all kind (txn_at txns t) txns (take t known)
 known_preds kind txns t known preds within long listed =
     let taken : length (take t known) ≡ t = length-take-le t known long in
     sym (knows_by kind (txn_at txns t) 0 txns (take t known) known (λ k h. let e : 0 + k ≡ k = omega arith in ap (λ j. get_or known j None) e ∙ sym (get_or-take t known k None (omega (arith, h, taken))))
     ∙ (ap (λ n. are_known known (preds_from kind (txn_at txns t) 0 (take n txns))) taken
-    ∙ ap (are_known known) (sym (listed ∙ list_at kind [] txns t within))))
+    ∙ ap (are_known known) (sym (listed ∙ list_at kind txns t no_txn within))))

@@ -1,3 +1,2 @@
 pub mod FollowLemmas
 pub mod KnownLemmas
-pub mod PairLemmas

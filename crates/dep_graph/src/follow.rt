@@ -27,12 +27,16 @@ pub fn other_app_follows(block: &Block, graph: &Graph, t: u16) -> bool
     another_follows(txns, graph, t, txns[t as usize].app)
 }
 
+// Whether one of another application depends on `t`. Only those after it may.
 #[tactic(auto, using(crate::proofs::FollowLemmas::another_more))]
 fn another_follows(txns: &[Txn], graph: &Graph, t: u16, app: u8) -> bool
-    requires { length graph.now.preds ≡ length txns.now }
+    requires position { t < length graph.now.preds }
+    requires places { length graph.now.preds ≡ length txns.now }
+    requires graph { IsGraphOf txns.now graph.now }
     ensures { result ≡ other_app_follows t app graph.now.preds txns.now }
 {
-    for j in 0..graph.len() {
+    let count = graph.len();
+    for j in t + 1..count {
         if is_after(graph, t, j) && txns[j as usize].app != app {
             return true;
         }

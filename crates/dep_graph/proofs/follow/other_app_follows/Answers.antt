@@ -1,9 +1,10 @@
-use Rattle.std.proofs.Common.{◌<◌, ◌∙◌, List, length, ap, arith}
+use Rattle.std.proofs.Common.{◌<◌, ◌∙◌, List, length, ap, sym, arith}
 use Rattle.std.proofs.lemmas.List.{get_or_default}
 use Rattle.txn_types.specs.declared.txn.Txn.{Txn}
 use Rattle.known_defs.specs.Known.{no_txn, txn_at}
 use Rattle.node_defs.specs.Sent.{other_app_follows}
 use Rattle.txn_core.proofs.GraphLemmas.{length-graph_of}
+use Rattle.oxii_defs.specs.Dependency.{graph_of}
 use Rattle.dep_graph.proofs.follow.other_app_follows.Goals as goal
 
 pub bounds-txns-t : goal.bounds-txns-t
@@ -12,8 +13,11 @@ bounds-txns-t c = omega (arith, c.requires.position, ap length c.requires.graph,
 pub bounds-txns-t-2 : goal.bounds-txns-t-2
 bounds-txns-t-2 c = omega (arith, c.requires.position, ap length c.requires.graph, length-graph_of c.args.graph.now.kind c.args.block.now.txns, ap length c.as_slice-txns.ensures)
 
-pub another_follows-requires : goal.another_follows-requires
-another_follows-requires c = omega (arith, ap length c.requires.graph, length-graph_of c.args.graph.now.kind c.args.block.now.txns, ap length c.as_slice-txns.ensures)
+pub another_follows-requires-clause-places : goal.another_follows-requires-clause-places
+another_follows-requires-clause-places c = omega (arith, ap length c.requires.graph, length-graph_of c.args.graph.now.kind c.args.block.now.txns, ap length c.as_slice-txns.ensures)
+
+pub another_follows-requires-clause-graph : goal.another_follows-requires-clause-graph
+another_follows-requires-clause-graph c = c.requires.graph ∙ ap (graph_of c.args.graph.now.kind) (sym c.as_slice-txns.ensures)
 
 pub returns : goal.returns
 returns c =
