@@ -1,0 +1,2 @@
+pub mod PayMeant
+pub mod MadeLawful
