@@ -11,11 +11,12 @@ use Rattle.std.proofs.lemmas.Bool.{and_parts, cond_both, eqb-false, ltb-true, lt
 use Rattle.std.proofs.lemmas.Bool.Decides.{Decides-by_and}
 use Rattle.std.proofs.lemmas.List.{length-replicate}
 use Rattle.std.proofs.lemmas.List.Elements.{All-from_recursion, All-nil, All-cons, All-replicate}
-use Rattle.std.proofs.lemmas.List.Sums.{count_by-le-length}
+use Rattle.std.proofs.lemmas.List.Sums.{count_by-le-length, sum_by-cons}
 use Rattle.txn_types.specs.Names.{IsName}
 use Rattle.txn_types.specs.Rising.{IsRising}
 use Rattle.txn_types.specs.Values.{IsValue}
 use Rattle.txn_types.specs.declared.stream.Item.{Item}
+use Rattle.txn_types.specs.declared.stream.Item.TheVariants as item
 use Rattle.txn_types.specs.declared.block.Body.{Body}
 use Rattle.txn_types.specs.declared.event.Event.TheVariants as event
 use Rattle.oxii_defs.specs.State.{State}
@@ -28,6 +29,7 @@ use Rattle.node_defs.specs.Admission.{IsLawfulItem, IsLawfulRequest, IsRequestAr
 use Rattle.txn_core.specs.Checked.{all_differ}
 use Rattle.txn_core.proofs.CheckLemmas.{differ_decides}
 use Rattle.contract_text.specs.Laws.{AreLawfulOps}
+use Rattle.contract_text.proofs.Accepted.{accepted_lawful}
 use Rattle.doc_forms.specs.Forms.{is_name, is_name_byte}
 use Rattle.doc_forms.proofs.NameTests.{Decides-name}
 use Rattle.doc_stream.specs.StreamMeaning.{is_config, is_request}
@@ -185,7 +187,10 @@ stream_length x (suc n) = let more = stream_length (next_draw (next_draw (next_d
 
 no_configs : (x n : ℕ) → count_by is_config (stream_behind x n) ≡ 0
 no_configs x zero = refl
-no_configs x (suc n) = no_configs (next_draw (next_draw (next_draw (next_draw x)))) n
+no_configs x (suc n) =
+    let next = next_draw (next_draw (next_draw (next_draw x))) in
+    let more = no_configs next n in
+    omega (arith, more, sum_by-cons (λ y. cond (is_config y) 1 0) (item.Ask (drawn_behind x)) (stream_behind next n))
 
 -- THE INPUT
 
@@ -220,4 +225,4 @@ input_lawful ops seed txns lawful few =
     }
 
 pub made_lawful : SoakInputsAreLawful
-made_lawful seed txns input few made = subst IsLawfulInput (sym made.is) (input_lawful made.ops seed txns (contract_lawful pay_text made.ops made.contract) few)
+made_lawful seed txns input few made = subst IsLawfulInput (sym made.is) (input_lawful made.ops seed txns (accepted_lawful pay_text made.ops made.contract) few)

@@ -6,6 +6,7 @@ ghost use Rattle.soak_input.specs.Generator.{next_draw};
 use std::marker::Model;
 
 /// The draws of a seed, seen by contracts as the last draw, or the seed before the first.
+#[derive(Drop)]
 pub struct Draws {
     last: u32,
 }
