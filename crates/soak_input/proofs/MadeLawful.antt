@@ -103,7 +103,7 @@ module _ (ops : List Op) (lawful : AreLawfulOps ops) where
     named = name_is (app_name i) named;
     agents = record {
       count = (omega arith, omega arith);
-      peers = All-from_recursion (λ (r : ℕ). r < 4) (p ∷ q ∷ []) (omega arith, last, tt);
+      peers = All-from_recursion (λ (r : ℕ). r < 4) (p ∷ q ∷ []) (omega arith, (last, tt));
       rising = (less, tt);
       votes = (omega arith, omega arith);
     };
@@ -116,14 +116,16 @@ module _ (ops : List Op) (lawful : AreLawfulOps ops) where
     well_formed = lawful.fine;
   }
 
-  named_app : (i : ℕ) → is_name (app_name i) ≡ true → IsName (app_name i)
-  named_app i h = name_is (app_name i) h
-
   apps_lawful : All (IsLawfulApp (table_of ops)) (apps_of ops)
   unfolding is_name is_name_byte
-  apps_lawful = All-from_recursion (IsLawfulApp (table_of ops)) (apps_of ops)
-      (app_lawful 1 0 1 refl (omega arith) (omega arith), app_lawful 2 1 2 refl (omega arith) (omega arith),
-       app_lawful 3 2 3 refl (omega arith) (omega arith), app_lawful 4 0 3 refl (omega arith) (omega arith), tt)
+  apps_lawful =
+      All-from_recursion (IsLawfulApp (table_of ops)) (apps_of ops) (
+        app_lawful 1 0 1 refl (omega arith) (omega arith),
+        (
+          app_lawful 2 1 2 refl (omega arith) (omega arith),
+          (app_lawful 3 2 3 refl (omega arith) (omega arith), (app_lawful 4 0 3 refl (omega arith) (omega arith), tt)),
+        ),
+      )
 
   table_lawful : IsLawfulTable (table_of ops)
   table_lawful = record {
@@ -148,7 +150,7 @@ by_form : (P : List ℕ → Type 0) (r q : ℕ) → P (r ∷ []) → (r < q → 
 by_form P r q same less more =
     cond_both (r == q) (r ∷ []) (cond (nat_lt r q) (r ∷ q ∷ []) (q ∷ r ∷ [])) P (λ e. same)
     (λ e. cond_both (nat_lt r q) (r ∷ q ∷ []) (q ∷ r ∷ []) P
-        (λ l. less (ltb-true r q l)) (λ l. let other = eqb-false r q e in let le = ltb-false r q l in more (omega arith)))
+    (λ l. less (ltb-true r q l)) (λ l. let other = eqb-false r q e in let le = ltb-false r q l in more (omega arith)))
 
 pair_rises : (r q : ℕ) → IsRising (pair_set r q)
 pair_rises r q = by_form IsRising r q tt (λ less. (less, tt)) (λ more. (more, tt))
@@ -156,14 +158,14 @@ pair_rises r q = by_form IsRising r q tt (λ less. (less, tt)) (λ more. (more, 
 pair_all : (P : ℕ → Type 0) (r q : ℕ) → P r → P q → All P (pair_set r q)
 pair_all P r q one other =
     by_form (All P) r q (All-from_recursion P (r ∷ []) (one, tt))
-    (λ less. All-from_recursion P (r ∷ q ∷ []) (one, other, tt)) (λ more. All-from_recursion P (q ∷ r ∷ []) (other, one, tt))
+    (λ less. All-from_recursion P (r ∷ q ∷ []) (one, (other, tt))) (λ more. All-from_recursion P (q ∷ r ∷ []) (other, (one, tt)))
 
 module _ (ops : List Op) where
   payment_lawful : (app from to amount : ℕ) → IsRecord (table_of ops) from → IsRecord (table_of ops) to → IsValue amount → IsLawfulRequest (table_of ops) (payment app from to amount)
   payment_lawful app from to amount one other value =
       let set : IsRequestSet (table_of ops) (pair_set from to) = record { rising = pair_rises from to; known = pair_all (IsRecord (table_of ops)) from to one other } in
       record {
-        args = All-from_recursion (IsRequestArg (table_of ops)) (payment app from to amount).args (one, other, value, tt);
+        args = All-from_recursion (IsRequestArg (table_of ops)) (payment app from to amount).args (one, (other, (value, tt)));
         reads = set;
         writes = set;
       }

@@ -7,6 +7,8 @@ mod names;
 mod payments;
 mod soak;
 mod tables;
+#[cfg(test)]
+mod tests;
 
 pub use laws::{soak_inputs_are_lawful, the_contract_is_pay};
 pub use soak::soak_input;

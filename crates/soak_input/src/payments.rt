@@ -32,13 +32,7 @@ fn args(alloc: Global, from: u16, to: u16, amount: u64) -> Result<RequestArgs, O
 }
 
 // A payment of an amount from one record to another, by the client of an application.
-fn payment(
-    alloc: Global,
-    app: u8,
-    from: u16,
-    to: u16,
-    amount: u64,
-) -> Result<Request, OutOfMemory>
+fn payment(alloc: Global, app: u8, from: u16, to: u16, amount: u64) -> Result<Request, OutOfMemory>
     requires { app ≤ 9 }
     ensures { IfOk result (λ request. request ≡ payment app from to amount) }
 {

@@ -1,10 +1,9 @@
 //! The table of a made input, and the values at its start.
 
-ghost use Rattle.std.specs.Prelude.{◌≡◌, ◌<◌, ◌≤◌, ℕ, [], ◌∷◌, map, replicate, codes, IfOk};
-ghost use Rattle.txn_types.specs.Rising.{IsRising};
+ghost use Rattle.std.specs.Prelude.{◌≡◌, ◌<◌, ◌≤◌, [], ◌∷◌, map, replicate, codes, IfOk};
 ghost use Rattle.txn_core.specs.Meant.{op_of};
 ghost use Rattle.txn_core.specs.MeantTable.{app_of, table_of};
-ghost use Rattle.contract_text.specs.TextMeaning.{IsContract};
+ghost use Rattle.contract_text.specs.declared.faults.TextFault.TheVariants as text_fault;
 ghost use Rattle.soak_input.specs.Generator as made;
 ghost use Rattle.soak_input.specs.Laws.{pay};
 
@@ -20,14 +19,23 @@ const PAY: &str = "op pay(from:record,to:record,n:number){require from>=n;from=f
 /// The value of each record at the start.
 const START: u64 = 1000;
 
-// The operations of the contract, which has no fault.
+// What a fault of the contract can only be.
+fn memory_wanted(fault: TextFault) -> OutOfMemory
+    requires { fault ≡ text_fault.OutOfMemory }
+{
+    match fault {
+        TextFault::OutOfMemory => OutOfMemory,
+        _ => unreachable!(),
+    }
+}
+
+// The operations of the contract.
 fn ops(alloc: Global) -> Result<Ops, OutOfMemory>
     ensures { IfOk result (λ ops. map op_of ops ≡ pay ∷ []) }
 {
     match read_contract(alloc, PAY) {
         Ok(contract) => Ok(contract.ops),
-        Err(TextFault::OutOfMemory) => Err(OutOfMemory),
-        Err(_) => unreachable!(),
+        Err(fault) => Err(memory_wanted(fault)),
     }
 }
 

@@ -3,7 +3,7 @@
 use crate::draws::Draws;
 use crate::soak_input;
 use std::test::Fail;
-use txn_types::{Arg, Item, Request};
+use txn_types::{Arg, Item};
 
 #[test]
 fn the_first_draws(rt: HostRuntime) {
@@ -13,24 +13,18 @@ fn the_first_draws(rt: HostRuntime) {
     }
 }
 
-fn asked(item: &Item) -> Option<&Request> {
-    match item {
-        Item::Ask(request) => Some(request),
-        _ => None,
-    }
-}
-
 #[test]
 fn the_first_payment(rt: HostRuntime) -> Result<(), Fail> {
     let input = soak_input(rt.alloc(), 1, 1)?;
-    assert_eq!(rt; input.items.len(), 1);
-    let request = input.items.as_slice().first().and_then(asked);
-    assert!(rt; request.is_some());
-    if let Some(request) = request {
-        assert_eq!(rt; request.app.as_slice(), b"a2".as_slice());
-        assert_eq!(rt; request.args.as_slice(), [Arg::Rec(241), Arg::Rec(217), Arg::Num(45)].as_slice());
-        assert_eq!(rt; request.writes.as_slice(), [217u16, 241].as_slice());
-    }
+    let [Item::Ask(request)] = input.items.as_slice() else {
+        panic!(rt; "not one request");
+    };
+    assert_eq!(rt; request.app.as_slice(), b"a2".as_slice());
+    assert_eq!(rt;
+        request.args.as_slice(),
+        [Arg::Rec(241), Arg::Rec(217), Arg::Num(45)].as_slice()
+    );
+    assert_eq!(rt; request.writes.as_slice(), [217u16, 241].as_slice());
     let names = input.table.records.as_slice();
     assert_eq!(rt; names.len(), 256);
     assert_eq!(rt; names[241].as_slice(), b"r241".as_slice());

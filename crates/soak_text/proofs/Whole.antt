@@ -66,9 +66,9 @@ summary_is s w seed txns table genesis p blocks first second values total messag
     let state : state_of values ≡ ledger_state r (first_by r L) = seat (λ q me. state_of values ≡ ledger_state q (ledger q me (heard q me L))) shows.state_is in
     let size : length table.records ≡ length values = sym (shows.values_are ∙ ap (λ (t : Table). length t.records) shows.table_is) in
     let sums : total ≡ meant.total (table_of table) (ledger_state r (first_by r L)) =
-        summed ∙ sym (state_sum values (length table.records) size) ∙ ap (λ st. sum_by (value_in st) (count_from 0 (length table.records))) state in
+    summed ∙ sym (state_sum values (length table.records) size) ∙ ap (λ st. sum_by (value_in st) (count_from 0 (length table.records))) state in
     parts_are (soak_line seed txns) (chain_lines table.kind blocks) (ledger_lines (completed_of first)) (count_line (codes "sum") total) (count_line (codes "messages") messages)
-        (tip_line (tip r (completed_of second))) t0 t1 t2 t3 t4 t5 t6 p0 p1 p2 p3 p4 p5 p6
+    (tip_line (tip r (completed_of second))) t0 t1 t2 t3 t4 t5 t6 p0 p1 p2 p3 p4 p5 p6
     ∙ ap (λ done. soak_line seed txns ++ chain_lines table.kind blocks ++ ledger_lines done ++ count_line (codes "sum") total ++ count_line (codes "messages") messages ++ tip_line (tip r (completed_of second))) one
     ∙ ap (λ done. soak_line seed txns ++ chain_lines table.kind blocks ++ ledger_lines (first_by r L) ++ count_line (codes "sum") total ++ count_line (codes "messages") messages ++ tip_line (tip r done)) two
     ∙ ap (λ n. soak_line seed txns ++ chain_lines table.kind blocks ++ ledger_lines (first_by r L) ++ count_line (codes "sum") n ++ count_line (codes "messages") messages ++ tip_line (tip r (first_by r L))) sums

@@ -31,7 +31,10 @@ fn commits_of(outcomes: &[Outcome]) -> usize
 fn aborts_of(outcomes: &[Outcome]) -> usize
     ensures { result ≡ count_by (λ o. not (is_commit o)) outcomes.now }
 {
-    outcomes.iter().filter(|outcome| !is_commit(outcome)).count()
+    outcomes
+        .iter()
+        .filter(|outcome| !is_commit(outcome))
+        .count()
 }
 
 /// How many transactions of a ledger committed.
