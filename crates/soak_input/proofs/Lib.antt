@@ -1,0 +1,4 @@
+pub mod StreamSteps
+pub mod PayMeant
+pub mod MadeLawful
+pub mod MadeWhole

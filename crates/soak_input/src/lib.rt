@@ -1,0 +1,14 @@
+//! The input that a seed makes.
+#![tactic(auto)]
+
+mod draws;
+mod laws;
+mod names;
+mod payments;
+mod soak;
+mod tables;
+#[cfg(test)]
+mod tests;
+
+pub use laws::{soak_inputs_are_lawful, the_contract_is_pay};
+pub use soak::soak_input;
