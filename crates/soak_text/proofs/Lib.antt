@@ -1,0 +1,7 @@
+pub mod Counts
+pub mod Pairs
+pub mod Totals
+pub mod Tips
+pub mod Chains
+pub mod Premises
+pub mod Whole

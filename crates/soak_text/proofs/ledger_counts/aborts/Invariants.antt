@@ -1,0 +1,7 @@
+use Rattle.std.proofs.Common.{◌≡◌, ◌≤◌, ◌*◌, not, take}
+use Rattle.std.specs.List.{sum_by, count_by}
+use Rattle.soak_text.specs.Summary.{is_commit}
+use Rattle.soak_text.proofs.ledger_counts.aborts.Given as goal
+
+abbrev pub invariant-loop-i : goal.invariant-loop-i
+invariant-loop-i l = (l.count ≡ sum_by (λ e. count_by (λ o. not (is_commit o)) e.outcomes) (take l.i l.ledger)) × (l.count ≤ l.i * 18446744073709551616)
