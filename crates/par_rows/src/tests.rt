@@ -5,6 +5,7 @@ mod devices;
 mod gates;
 mod lists;
 mod rows;
+mod soak;
 mod taken;
 mod words;
 

@@ -14,7 +14,9 @@ use Rattle.input_doc.specs.Means.{Means, IsFaultOf, ExactlyOne}
 use Rattle.par_top.specs.declared.status.Status.{Status}
 use Rattle.par_top.specs.declared.status.Status.TheVariants as status
 use Rattle.par_words.specs.declared.command.Command.{Command}
-use Rattle.par_top.specs.Top.{HasRead, IsHeadline, IsWrittenPart, IsRefusal, IsRefusedFor, refusal, document_limit, too_long}
+use Rattle.par_words.specs.declared.command.Command.TheVariants.{Run, Graph, Soak}
+use Rattle.par_top.specs.Commands.{IsRunText, IsGraphText}
+use Rattle.par_top.specs.Top.{Ends, HasRead, IsRefusal, IsRefusedFor, Prints, Reads, refusal, document_limit, too_long}
 
 -- what was read to the end of a source that tells its bytes is all of them
 all_read : (bytes taken : List ℕ) (new : Option (List ℕ)) → Consumes (Some bytes) new taken → IsAtEnd new → taken ≡ bytes
@@ -46,21 +48,30 @@ no_refusal bytes new input f once short means (inr is) =
     no_fault bytes input f (once bytes) means (subst (λ (xs : List ℕ). IsFaultOf xs f) (all_read bytes is.bytes new is.read.taken is.read.end) is.is)
 
 -- each other status has a cause that is not there
-pub is_answered : (result : Status) (old new : Option (List ℕ)) (bytes : List ℕ) (input : Input) (source source_new sink sink_new : ℕ)
+pub is_answered : (command : Command) (result : Status) (source source_new sink sink_new : ℕ) (old new written written_new : Option (List ℕ)) (unwritten : Type 0) (bytes : List ℕ) (input : Input)
     → ((bytes : List ℕ) → ExactlyOne bytes) → old ≡ Some bytes → length bytes ≤ document_limit → Means bytes input
     → ¬ Rose source source_new → ¬ Rose sink sink_new
-    → (result ≡ status.Usage → ⊥)
-    → ((f : DocFault) → result ≡ status.Refused f → IsRefusal old new f)
-    → (result ≡ status.ReadFault → Rose source source_new)
-    → (result ≡ status.WriteFault → Rose sink sink_new)
+    → Ends command source source_new sink sink_new old new written written_new unwritten result
     → (result ≡ status.Ok) ⊎ (result ≡ status.OutOfMemory)
-is_answered status.Ok old new bytes input s s' k k' once told short means read written usage refused read_fault write_fault = inl refl
-is_answered status.Usage old new bytes input s s' k k' once told short means read written usage refused read_fault write_fault = absurd (usage refl)
-is_answered (status.Refused f) old new bytes input s s' k k' once told short means read written usage refused read_fault write_fault =
-    absurd (no_refusal bytes new input f once short means (subst (λ (o : Option (List ℕ)). IsRefusal o new f) told (refused f refl)))
-is_answered status.OutOfMemory old new bytes input s s' k k' once told short means read written usage refused read_fault write_fault = inr refl
-is_answered status.ReadFault old new bytes input s s' k k' once told short means read written usage refused read_fault write_fault = absurd (read (read_fault refl))
-is_answered status.WriteFault old new bytes input s s' k k' once told short means read written usage refused read_fault write_fault = absurd (written (write_fault refl))
+is_answered command status.Ok s s' k k' old new w w' u bytes input once told short means read written ends = inl refl
+is_answered command status.Usage s s' k k' old new w w' u bytes input once told short means read written ends = absurd ends.0
+is_answered command (status.Refused f) s s' k k' old new w w' u bytes input once told short means read written ends =
+    absurd (no_refusal bytes new input f once short means (subst (λ (o : Option (List ℕ)). IsRefusal o new f) told ends.0.2))
+is_answered command status.OutOfMemory s s' k k' old new w w' u bytes input once told short means read written ends = inr refl
+is_answered command status.ReadFault s s' k k' old new w w' u bytes input once told short means read written ends = absurd (read ends.0.1.rose)
+is_answered command status.WriteFault s s' k k' old new w w' u bytes input once told short means read written ends = absurd (written ends.0)
+
+-- a command that reads nothing is refused by no status but that of the sink
+pub is_made : (command : Command) (result : Status) (source source_new sink sink_new : ℕ) (old new written written_new : Option (List ℕ)) (unwritten : Type 0)
+    → ¬ Reads command → ¬ Rose sink sink_new
+    → Ends command source source_new sink sink_new old new written written_new unwritten result
+    → (result ≡ status.Ok) ⊎ (result ≡ status.OutOfMemory)
+is_made command status.Ok s s' k k' old new w w' u none kept ends = inl refl
+is_made command status.Usage s s' k k' old new w w' u none kept ends = absurd ends.0
+is_made command (status.Refused f) s s' k k' old new w w' u none kept ends = absurd (none ends.0.0)
+is_made command status.OutOfMemory s s' k k' old new w w' u none kept ends = inr refl
+is_made command status.ReadFault s s' k k' old new w w' u none kept ends = absurd (none ends.0.0)
+is_made command status.WriteFault s s' k k' old new w w' u none kept ends = absurd (kept ends.0)
 
 -- bytes with a fault
 
@@ -83,61 +94,64 @@ refused_so bytes new told f once short is (inl long) = absurd (omega (arith, no_
 refused_so bytes new told f once short is (inr at) =
     the_fault bytes told f once is (subst (λ (xs : List ℕ). IsFaultOf xs f) (all_read bytes at.bytes new at.read.taken at.read.end) at.is)
 
--- a document that is printed has no fault
-was_faultless : (command : Command) (old new : Option (List ℕ)) (bytes lines : List ℕ) (told : Fault) → ExactlyOne bytes → old ≡ Some bytes → reading bytes ≡ Err told → HasRead command old new lines → ⊥
-was_faultless command old new bytes lines told once is fault read =
-    let same : read.bytes ≡ bytes = all_read bytes read.bytes new (subst (λ (o : Option (List ℕ)). Consumes o new read.bytes) is read.read.taken) read.read.end in
-    once.not_both read.input told (subst (λ (xs : List ℕ). Means xs read.input) same read.means) fault
+-- a text that a command prints of a document
+abbrev Reading : Option (List ℕ) → Option (List ℕ) → List ℕ → Type 0 → Type 1
+Reading old new lines X = (prints : Input → List ℕ → Type 0) → HasRead prints old new lines → X
 
-pub is_faulty : (command : Command) (result : Status) (old new written written_new : Option (List ℕ)) (bytes : List ℕ) (told : Fault) (source source_new : ℕ)
-    → ExactlyOne bytes → old ≡ Some bytes → length bytes ≤ document_limit → reading bytes ≡ Err told
+of_document : (command : Command) (old new : Option (List ℕ)) (lines : List ℕ) → Reads command → Prints command old new lines → Reading old new lines ⊥ → ⊥
+of_document (Run workers traced) old new lines reads printed none = none (IsRunText workers traced) printed
+of_document Graph old new lines reads printed none = none IsGraphText printed
+of_document (Soak seed txns workers) old new lines reads printed none = reads
+
+-- a document that is printed has no fault
+was_faultless : (old new : Option (List ℕ)) (bytes lines : List ℕ) (told : Fault) → ExactlyOne bytes → old ≡ Some bytes → reading bytes ≡ Err told → Reading old new lines ⊥
+was_faultless old new bytes lines told once is fault prints read =
+    let d = read.document in
+    let same : d.bytes ≡ bytes = all_read bytes d.bytes new (subst (λ (o : Option (List ℕ)). Consumes o new d.bytes) is d.read.taken) d.read.end in
+    once.not_both read.input told (subst (λ (xs : List ℕ). Means xs read.input) same d.means) fault
+
+pub is_faulty : (command : Command) (result : Status) (source source_new sink sink_new : ℕ) (old new written written_new : Option (List ℕ)) (unwritten : Type 0) (bytes : List ℕ) (told : Fault)
+    → Reads command → ExactlyOne bytes → old ≡ Some bytes → length bytes ≤ document_limit → reading bytes ≡ Err told
     → ¬ Rose source source_new
-    → (result ≡ status.Ok → IsHeadline command old new written written_new)
-    → (result ≡ status.Usage → ⊥)
-    → ((f : DocFault) → result ≡ status.Refused f → IsRefusal old new f)
-    → (result ≡ status.ReadFault → Rose source source_new)
-    → (result ≡ status.WriteFault → IsWrittenPart command old new written written_new)
+    → Ends command source source_new sink sink_new old new written written_new unwritten result
     → IsRefusedFor result told ⊎ (result ≡ status.OutOfMemory)
-is_faulty command status.Ok old new w w' bytes told s s' once is short fault read ok usage refused read_fault part =
-    absurd (was_faultless command old new bytes (ok refl).lines told once is fault (ok refl).read)
-is_faulty command status.Usage old new w w' bytes told s s' once is short fault read ok usage refused read_fault part = absurd (usage refl)
-is_faulty command (status.Refused f) old new w w' bytes told s s' once is short fault read ok usage refused read_fault part =
-    inl (refused_so bytes new told f once short fault (subst (λ (o : Option (List ℕ)). IsRefusal o new f) is (refused f refl)))
-is_faulty command status.OutOfMemory old new w w' bytes told s s' once is short fault read ok usage refused read_fault part = inr refl
-is_faulty command status.ReadFault old new w w' bytes told s s' once is short fault read ok usage refused read_fault part = absurd (read (read_fault refl))
-is_faulty command status.WriteFault old new w w' bytes told s s' once is short fault read ok usage refused read_fault part =
-    absurd (was_faultless command old new bytes (part refl).lines told once is fault (part refl).read)
+is_faulty command status.Ok s s' k k' old new w w' u bytes told reads once is short fault read ends =
+    absurd (of_document command old new ends.lines reads ends.read (was_faultless old new bytes ends.lines told once is fault))
+is_faulty command status.Usage s s' k k' old new w w' u bytes told reads once is short fault read ends = absurd ends.0
+is_faulty command (status.Refused f) s s' k k' old new w w' u bytes told reads once is short fault read ends =
+    inl (refused_so bytes new told f once short fault (subst (λ (o : Option (List ℕ)). IsRefusal o new f) is ends.0.2))
+is_faulty command status.OutOfMemory s s' k k' old new w w' u bytes told reads once is short fault read ends = inr refl
+is_faulty command status.ReadFault s s' k k' old new w w' u bytes told reads once is short fault read ends = absurd (read ends.0.1.rose)
+is_faulty command status.WriteFault s s' k k' old new w w' u bytes told reads once is short fault read ends =
+    absurd (of_document command old new ends.1.lines reads ends.1.read (was_faultless old new bytes ends.1.lines told once is fault))
 
 -- more bytes than a document has
 
 -- a document that is printed is no longer than the limit
-was_short : (command : Command) (old new : Option (List ℕ)) (bytes lines : List ℕ) → old ≡ Some bytes → document_limit < length bytes → HasRead command old new lines → ⊥
-was_short command old new bytes lines told long read =
-    let same : read.bytes ≡ bytes = all_read bytes read.bytes new (subst (λ (o : Option (List ℕ)). Consumes o new read.bytes) told read.read.taken) read.read.end in
-    omega (arith, read.read.short, ap length same, long)
+was_short : (old new : Option (List ℕ)) (bytes lines : List ℕ) → old ≡ Some bytes → document_limit < length bytes → Reading old new lines ⊥
+was_short old new bytes lines told long prints read =
+    let d = read.document in
+    let same : d.bytes ≡ bytes = all_read bytes d.bytes new (subst (λ (o : Option (List ℕ)). Consumes o new d.bytes) told d.read.taken) d.read.end in
+    omega (arith, d.read.short, ap length same, long)
 
 long_so : (bytes : List ℕ) (new : Option (List ℕ)) (f : DocFault) → document_limit < length bytes → IsRefusal (Some bytes) new f → f ≡ too_long
 long_so bytes new f long (inl is) = is.0
 long_so bytes new f long (inr at) = absurd (omega (arith, at.read.short, ap length (all_read bytes at.bytes new at.read.taken at.read.end), long))
 
-pub is_long : (command : Command) (result : Status) (old new written written_new : Option (List ℕ)) (bytes : List ℕ) (source source_new : ℕ)
-    → old ≡ Some bytes → document_limit < length bytes
+pub is_long : (command : Command) (result : Status) (source source_new sink sink_new : ℕ) (old new written written_new : Option (List ℕ)) (unwritten : Type 0) (bytes : List ℕ)
+    → Reads command → old ≡ Some bytes → document_limit < length bytes
     → ¬ Rose source source_new
-    → (result ≡ status.Ok → IsHeadline command old new written written_new)
-    → (result ≡ status.Usage → ⊥)
-    → ((f : DocFault) → result ≡ status.Refused f → IsRefusal old new f)
-    → (result ≡ status.ReadFault → Rose source source_new)
-    → (result ≡ status.WriteFault → IsWrittenPart command old new written written_new)
+    → Ends command source source_new sink sink_new old new written written_new unwritten result
     → (result ≡ status.Refused too_long) ⊎ (result ≡ status.OutOfMemory)
-is_long command status.Ok old new w w' bytes s s' told long read ok usage refused read_fault part =
-    absurd (was_short command old new bytes (ok refl).lines told long (ok refl).read)
-is_long command status.Usage old new w w' bytes s s' told long read ok usage refused read_fault part = absurd (usage refl)
-is_long command (status.Refused f) old new w w' bytes s s' told long read ok usage refused read_fault part =
-    inl (ap refused_for (long_so bytes new f long (subst (λ (o : Option (List ℕ)). IsRefusal o new f) told (refused f refl))))
+is_long command status.Ok s s' k k' old new w w' u bytes reads told long read ends =
+    absurd (of_document command old new ends.lines reads ends.read (was_short old new bytes ends.lines told long))
+is_long command status.Usage s s' k k' old new w w' u bytes reads told long read ends = absurd ends.0
+is_long command (status.Refused f) s s' k k' old new w w' u bytes reads told long read ends =
+    inl (ap refused_for (long_so bytes new f long (subst (λ (o : Option (List ℕ)). IsRefusal o new f) told ends.0.2)))
   where
     refused_for : DocFault → Status
     refused_for g = status.Refused g
-is_long command status.OutOfMemory old new w w' bytes s s' told long read ok usage refused read_fault part = inr refl
-is_long command status.ReadFault old new w w' bytes s s' told long read ok usage refused read_fault part = absurd (read (read_fault refl))
-is_long command status.WriteFault old new w w' bytes s s' told long read ok usage refused read_fault part =
-    absurd (was_short command old new bytes (part refl).lines told long (part refl).read)
+is_long command status.OutOfMemory s s' k k' old new w w' u bytes reads told long read ends = inr refl
+is_long command status.ReadFault s s' k k' old new w w' u bytes reads told long read ends = absurd (read ends.0.1.rose)
+is_long command status.WriteFault s s' k k' old new w w' u bytes reads told long read ends =
+    absurd (of_document command old new ends.1.lines reads ends.1.read (was_short old new bytes ends.1.lines told long))

@@ -5,3 +5,5 @@ pub mod WorldLemmas
 pub mod TextLemmas
 pub mod Complete
 pub mod SerialHeadlines
+pub mod Endings
+pub mod SoakWorlds

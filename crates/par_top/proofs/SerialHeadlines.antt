@@ -16,13 +16,13 @@ no_trace workers false input lines is asked = is
 pub serial_headline : (workers : ℕ) (traced : Bool) (rest_old rest_new written_old written_new : Option (List ℕ)) → IsHeadline (Run workers traced) rest_old rest_new written_old written_new → IsSerialHeadline traced rest_old rest_new written_old written_new
 serial_headline workers traced rest_old rest_new written_old written_new h =
     let printed = h.read.text in record {
-      bytes = h.read.bytes;
+      bytes = h.read.document.bytes;
       input = h.read.input;
       text = printed.text;
       trace = printed.trace;
-      read = h.read.read;
-      means = h.read.means;
+      read = h.read.document.read;
+      means = h.read.document.means;
       written = subst (Appends written_old written_new) printed.whole h.written;
       untraced = no_trace workers traced h.read.input printed.trace printed.bursts;
-      serial = serial_is h.read.input printed.text h.read.lawful printed.world;
+      serial = serial_is h.read.input printed.text h.read.document.lawful printed.world;
     }

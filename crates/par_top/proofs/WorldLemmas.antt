@@ -82,7 +82,7 @@ run_text_is input items blocks pieces rejected lines w same agreed admitted told
     (ours.bodies, ours.agreed, subst (λ rs. over (chain input.table ours.bodies) (pieces_of input.table input.items) rs) (told ∙ ap (rejected_from input.table 0) same) carried)
 
 -- the setting of the agreed blocks is that of their bodies
-setting_is : (input : Input) (blocks : List Block) (pieces : List (Option Piece)) (agreed : AreAgreedBlocks input.table input.limits input.items blocks) → pieces ≡ pieces_of input.table input.items →
+pub setting_is : (input : Input) (blocks : List Block) (pieces : List (Option Piece)) (agreed : AreAgreedBlocks input.table input.limits input.items blocks) → pieces ≡ pieces_of input.table input.items →
     setting_with input.table (state_of input.genesis) blocks pieces input.faulty ≡ setting_over input agreed.bodies
 setting_is input blocks pieces agreed admitted =
     ap (λ bs. setting_with input.table (state_of input.genesis) bs pieces input.faulty) agreed.linked

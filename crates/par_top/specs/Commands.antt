@@ -1,15 +1,13 @@
--- The commands, and what each prints.
+-- What `run` and `graph` print of a document.
 use Rattle.std.specs.Prelude.{◌≡◌, ℕ, Bool, List, ◌++◌}
 use Rattle.node_defs.specs.Text.{IsTextOf}
 use Rattle.node_defs.specs.GraphText.{IsGraphTextOf}
 use Rattle.text_laws.specs.SerialText as serial
 use Rattle.txn_core.specs.States.{state_of}
 use Rattle.input_doc.specs.Inputs.{Input}
-use Rattle.par_words.specs.declared.command.Command.{Command}
-use Rattle.par_words.specs.declared.command.Command.TheVariants.{Run, Graph}
 use Rattle.par_top.specs.Traced.{IsTraceText}
 
--- WHAT A COMMAND PRINTS
+-- WHAT IS PRINTED
 
 -- what `run` prints whatever its options: the text of the world of its events, over the chain of its agreed blocks
 abbrev pub IsWorldText : Input → List ℕ → Type 0
@@ -26,11 +24,6 @@ pub record IsRunText (workers : ℕ) (traced : Bool) (input : Input) (lines : Li
 -- what `graph` prints
 abbrev pub IsGraphText : Input → List ℕ → Type 0
 IsGraphText input lines = IsGraphTextOf input.table input.items input.limits lines
-
--- what the command prints of a document
-abbrev pub IsTextFor : Command → Input → List ℕ → Type 0
-IsTextFor (Run workers traced) input lines = IsRunText workers traced input lines
-IsTextFor Graph input lines = IsGraphText input lines
 
 -- TAME DOCUMENTS
 

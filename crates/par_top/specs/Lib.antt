@@ -9,6 +9,8 @@ pub use Rattle.peer_laws.specs.Runs
 pub use Rattle.peer_turns.specs.Traces
 pub use Rattle.world_laws.specs.Deliveries
 pub use Rattle.report_text.specs.BurstText
+pub use Rattle.soak_input.specs.Generator
+pub use Rattle.soak_text.specs.Summary
 pub use Rattle.par_words.specs.Words
 pub use Rattle.input_doc.specs.Inputs
 pub use Rattle.input_doc.specs.Held

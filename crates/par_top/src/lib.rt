@@ -2,8 +2,10 @@
 #![tactic(auto)]
 
 mod agreed;
+mod document;
 mod graphs;
 mod paths;
+mod soak;
 mod status;
 mod text;
 mod top;

@@ -25,6 +25,17 @@ pub enum Status {
     WriteFault,
 }
 
+impl From<OutOfMemory> for Status {
+    ghost use Rattle.std.specs.Prelude.{◌≡◌};
+    ghost use Rattle.par_top.specs.declared.status.Status.TheVariants as status;
+
+    ghost from_gives = { λ _ s. s ≡ status.OutOfMemory };
+
+    fn from(_: OutOfMemory) -> Status {
+        Status::OutOfMemory
+    }
+}
+
 /// The number that the program ends with: 0, or 2 to 6.
 pub fn status_code(status: &Status) -> u8
     ensures { result ≡ code_of status.now }

@@ -1,4 +1,4 @@
-//! The printed text of a document.
+//! The printed text of a document, and the world that it is of.
 
 ghost use Rattle.std.specs.Prelude.{◌≡◌, ◌≤◌, IfOk};
 ghost use Rattle.std.specs.List.{All};
@@ -10,22 +10,20 @@ ghost use Rattle.world_laws.specs.Worlds.{HasBursts, IsWorldOf, setting_with};
 ghost use Rattle.par_top.specs.AgreedBlocks.{AreAgreedBlocks};
 ghost use Rattle.input_doc.specs.Inputs.{IsLawfulInput};
 ghost use Rattle.input_doc.specs.Held.{input_of};
-ghost use Rattle.par_words.specs.Words.{HasWorkers};
-ghost use Rattle.par_top.specs.Commands.{IsRunText, IsGraphText, IsTextFor};
+ghost use Rattle.par_top.specs.Commands.{IsRunText, IsGraphText};
 
 use crate::Gate;
 use crate::agreed::{Agreed, agree};
 use crate::graphs::push_graph_text;
 use crate::world_text::report;
 use input_doc::Input;
-use par_words::Command;
 use schedule_run::World;
 use std::alloc::Global;
 use std::thread::Threads;
 use txn_types::{OutOfMemory, Text};
 
-// The world of the schedule over the agreed blocks.
-fn play<'t, R: Threads + Sync, G: Gate>(
+/// The world of the schedule over the agreed blocks.
+pub fn play<'t, R: Threads + Sync, G: Gate>(
     rt: &R,
     alloc: Global,
     input: &'t Input,
@@ -54,8 +52,8 @@ fn play<'t, R: Threads + Sync, G: Gate>(
     Ok(world)
 }
 
-// The text of the world of the schedule.
-fn run_text<R: Threads + Sync, G: Gate>(
+/// The text of the world of the schedule.
+pub fn run_text<R: Threads + Sync, G: Gate>(
     rt: &R,
     alloc: Global,
     input: &Input,
@@ -84,22 +82,4 @@ pub fn graph_report(alloc: Global, input: &Input) -> Result<Text, OutOfMemory>
     let mut text = Text::new(alloc);
     push_graph_text(alloc, &mut text, table, &agreed)?;
     Ok(text)
-}
-
-/// What a command prints of a document.
-pub fn text_for<R: Threads + Sync, G: Gate>(
-    rt: &R,
-    alloc: Global,
-    command: Command,
-    input: &Input,
-    gate: &G,
-) -> Result<Text, OutOfMemory>
-    requires lawful { IsLawfulInput (input_of input.now) }
-    requires workers { HasWorkers command }
-    ensures text { IfOk result (IsTextFor command (input_of input.now)) }
-{
-    match command {
-        Command::Run { workers, trace } => run_text(rt, alloc, input, workers, trace, gate),
-        Command::Graph => graph_report(alloc, input),
-    }
 }

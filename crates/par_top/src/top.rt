@@ -1,25 +1,59 @@
 //! The top call.
 
-ghost use Rattle.std.specs.Prelude.{◌≡◌, ◌≤◌, ◌<◌, ◌⊎◌, ◌↔◌, ◌≢◌, Bool, List, ℕ, Some, length, map, string_bytes};
+ghost use Rattle.std.specs.Prelude.{◌≡◌, ◌≤◌, ◌<◌, ◌⊎◌, ◌↔◌, ◌≢◌, Bool, List, ℕ, Some, length, map, string_bytes, IfOk, IfErr};
 ghost use Rattle.par_io.specs.Causes.{Rose};
 ghost use Rattle.input_doc.specs.Inputs.{Input};
 ghost use Rattle.doc_forms.specs.Faults.{Fault};
 ghost use Rattle.input_doc.specs.Means.{Means, HasFault};
-ghost use Rattle.par_words.specs.declared.command.Command.TheVariants.{Run};
-ghost use Rattle.par_words.specs.Words.{Says, IsCommand, HasWorkers};
+ghost use Rattle.par_words.specs.declared.command.Command.TheVariants.{Run, Soak};
+ghost use Rattle.par_words.specs.Words.{Says, IsCommand, IsInRange};
 ghost use Rattle.par_top.specs.Statuses.{CanSay};
-ghost use Rattle.par_top.specs.Top.{OfCommand, IsHeadline, IsReadFault, IsSerialHeadline, IsWrittenPart, IsRefusal, IsRefusedFor, document_limit, too_long};
+ghost use Rattle.par_top.specs.Top.{Ends, OfCommand, IsHeadline, IsNoText, IsReadFault, IsSerialHeadline, IsWrittenPart, IsRefusal, IsRefusedFor, Prints, Reads, document_limit, too_long};
 
-use crate::text::text_for;
-use crate::{DocFault, Gate, Status, Which};
-use input_doc::read_input;
-use par_io::{ReadFail, Sink, Source, read_all, write_all};
+use crate::document::read_document;
+use crate::soak::soak_summary;
+use crate::text::{graph_report, run_text};
+use crate::{DocFault, Gate, Status};
+use par_io::{Sink, Source, write_all};
 use par_words::{Command, command_of};
 use std::alloc::Global;
 use std::thread::Threads;
+use txn_types::Text;
 
-/// The greatest length of a document in bytes.
-const DOCUMENT_LIMIT: usize = 4_194_304;
+// The text of a command, or why there is none: of the document that the source has, and for `soak`, which leaves the source alone, of an input that it makes.
+fn text_of<R: Threads + Sync, S: Source, G: Gate>(
+    rt: &R,
+    alloc: Global,
+    command: Command,
+    source: &mut S,
+    gate: &G,
+) -> Result<Text, Status>
+    requires range { IsInRange command }
+    ensures text { IfOk result (Prints command (S.rest source.old) (S.rest source.new)) }
+    ensures none { IfErr result (IsNoText (Reads command) (S.faults source.old) (S.faults source.new) (S.rest source.old) (S.rest source.new)) }
+    ensures unread { Reads command ⊎ (source.new ≡ source.old) }
+{
+    match command {
+        Command::Run { workers, trace } => {
+            let input = read_document(alloc, source)?;
+            let text = run_text(rt, alloc, &input, workers, trace, gate)?;
+            Ok(text)
+        }
+        Command::Graph => {
+            let input = read_document(alloc, source)?;
+            let text = graph_report(alloc, &input)?;
+            Ok(text)
+        }
+        Command::Soak {
+            seed,
+            txns,
+            workers,
+        } => {
+            let text = soak_summary(rt, alloc, seed, txns, workers, gate)?;
+            Ok(text)
+        }
+    }
+}
 
 fn run_command<R: Threads + Sync, S: Source, K: Sink, G: Gate>(
     rt: &R,
@@ -29,34 +63,13 @@ fn run_command<R: Threads + Sync, S: Source, K: Sink, G: Gate>(
     sink: &mut K,
     gate: &G,
 ) -> Status
-    requires workers { HasWorkers command }
-    ensures ok { result ≡ Status.Ok → IsHeadline command (S.rest source.old) (S.rest source.new) (K.written sink.old) (K.written sink.new) }
-    ensures not_usage { result ≡ Status.Usage → ⊥ }
-    ensures refused { (fault : DocFault) → result ≡ Status.Refused fault → IsRefusal (S.rest source.old) (S.rest source.new) fault }
-    ensures read_fault { result ≡ Status.ReadFault → IsReadFault (S.faults source.old) (S.faults source.new) (S.rest source.old) (S.rest source.new) }
-    ensures write_fault { result ≡ Status.WriteFault → Rose (K.faults sink.old) (K.faults sink.new) }
-    ensures part { result ≡ Status.WriteFault → IsWrittenPart command (S.rest source.old) (S.rest source.new) (K.written sink.old) (K.written sink.new) }
-    ensures nothing { (result ≡ Status.Ok) ⊎ ((result ≡ Status.WriteFault) ⊎ (sink.new ≡ sink.old)) }
-    ensures sayable { CanSay result }
+    requires range { IsInRange command }
+    ensures ends { Ends command (S.faults source.old) (S.faults source.new) (K.faults sink.old) (K.faults sink.new) (S.rest source.old) (S.rest source.new) (K.written sink.old) (K.written sink.new) (sink.new ≡ sink.old) result }
+    ensures unread { Reads command ⊎ (source.new ≡ source.old) }
 {
-    let bytes = match read_all(alloc, source, DOCUMENT_LIMIT) {
-        Ok(bytes) => bytes,
-        Err(ReadFail::Fault) => return Status::ReadFault,
-        Err(ReadFail::TooLong) => {
-            return Status::Refused(DocFault::Limit {
-                which: Which::Document,
-                limit: DOCUMENT_LIMIT as u64,
-            });
-        }
-        Err(ReadFail::OutOfMemory) => return Status::OutOfMemory,
-    };
-    let input = match read_input(alloc, bytes.as_slice()) {
-        Ok(input) => input,
-        Err(DocFault::OutOfMemory) => return Status::OutOfMemory,
-        Err(fault) => return Status::Refused(fault),
-    };
-    let Ok(text) = text_for(rt, alloc, command, &input, gate) else {
-        return Status::OutOfMemory;
+    let text = match text_of(rt, alloc, command, source, gate) {
+        Ok(text) => text,
+        Err(status) => return status,
     };
     if write_all(sink, text.as_slice()).is_err() {
         return Status::WriteFault;
@@ -64,7 +77,8 @@ fn run_command<R: Threads + Sync, S: Source, K: Sink, G: Gate>(
     Status::Ok
 }
 
-/// Does what the words say, over a document that it reads from the source: `run` plays its schedule and writes what each peer that isn't faulty comes to, `graph` writes its agreed blocks with their graphs. `--workers` says how many workers a peer has, which changes no byte but those of the trace, and `--trace` adds what ran with each delivery, by which worker.
+/// Does what the words say. Over a document that it reads from the source, `run` plays its schedule and writes what each peer that isn't faulty comes to, and `graph` writes its agreed blocks with their graphs. `soak` reads nothing: it plays an input that it makes from a seed, and writes a summary. `--workers` says how many workers a peer has, which changes no byte but those of the trace, and `--trace` adds what ran with each delivery, by which worker.
+#[tactic(auto, using(crate::proofs::Endings::ended_ok, crate::proofs::Endings::ended_in_part, crate::proofs::Endings::no_usage, crate::proofs::Endings::ended_refused, crate::proofs::Endings::ended_unread, crate::proofs::Endings::sayable_so, crate::proofs::Endings::nothing_so))]
 pub fn run<R: Threads + Sync, S: Source, K: Sink, G: Gate>(
     rt: &R,
     alloc: Global,
@@ -76,35 +90,39 @@ pub fn run<R: Threads + Sync, S: Source, K: Sink, G: Gate>(
     // The headline, for each number of workers: where few enough nodes are faulty, each peer that isn't printed exactly the blocks that it holds quorums for, with the outcomes of running their transactions one after another, whatever the schedule loses, repeats or reorders. What is said of these lines doesn't name the workers.
     ensures serial { result ≡ Status.Ok → (workers : ℕ) (traced : Bool) → Says (map string_bytes words.now) (Run workers traced) → IsSerialHeadline traced (S.rest source.old) (S.rest source.new) (K.written sink.old) (K.written sink.new) }
 
-    // The whole text of a document that was read to its end, whoever is faulty, and its trace with bursts of these workers.
+    // The whole text: of a document that was read to its end, whoever is faulty, with its trace in bursts of these workers, or of the input that a seed makes.
     ensures ok { result ≡ Status.Ok → OfCommand (map string_bytes words.now) (λ command. IsHeadline command (S.rest source.old) (S.rest source.new) (K.written sink.old) (K.written sink.new)) }
 
     // Usage exactly where the words are no command, unless memory is wanted; with such words nothing is touched.
     ensures usage { (result ≡ Status.Usage) ↔ ((¬ IsCommand (map string_bytes words.now)) × (result ≢ Status.OutOfMemory)) }
     ensures untouched { ¬ IsCommand (map string_bytes words.now) → (source.new ≡ source.old) × (sink.new ≡ sink.old) }
 
-    // A refusal has its cause in what was read, and a fault in the object that failed; before a read fault came no more bytes than a document has. Want of memory is no refusal.
+    // A refusal is of a command that reads a document, and has its cause in what was read, and a fault in the object that failed; before a read fault came no more bytes than a document has. Want of memory is no refusal.
     ensures sayable { CanSay result }
-    ensures refused { (fault : DocFault) → result ≡ Status.Refused fault → IsCommand (map string_bytes words.now) × IsRefusal (S.rest source.old) (S.rest source.new) fault }
-    ensures read_fault { result ≡ Status.ReadFault → IsReadFault (S.faults source.old) (S.faults source.new) (S.rest source.old) (S.rest source.new) }
+    ensures refused { (fault : DocFault) → result ≡ Status.Refused fault → OfCommand (map string_bytes words.now) Reads × IsRefusal (S.rest source.old) (S.rest source.new) fault }
+    ensures read_fault { result ≡ Status.ReadFault → OfCommand (map string_bytes words.now) Reads × IsReadFault (S.faults source.old) (S.faults source.new) (S.rest source.old) (S.rest source.new) }
     ensures write_fault { result ≡ Status.WriteFault → Rose (K.faults sink.old) (K.faults sink.new) }
 
     // What was written is a part from the front of the text, and with every other answer nothing.
     ensures part { result ≡ Status.WriteFault → OfCommand (map string_bytes words.now) (λ command. IsWrittenPart command (S.rest source.old) (S.rest source.new) (K.written sink.old) (K.written sink.new)) }
     ensures nothing { (result ≡ Status.Ok) ⊎ ((result ≡ Status.WriteFault) ⊎ (sink.new ≡ sink.old)) }
 
+    // `soak` leaves the source alone, and is answered, unless memory is wanted or a fault of the sink was counted.
+    ensures soak { (seed txns workers : ℕ) → Says (map string_bytes words.now) (Soak seed txns workers) → (source.new ≡ source.old)
+        × (¬ Rose (K.faults sink.old) (K.faults sink.new) → (result ≡ Status.Ok) ⊎ (result ≡ Status.OutOfMemory)) }
+
     // A document that has a meaning is answered, unless memory is wanted or a fault was counted.
-    ensures complete { (command : Command) (bytes : List ℕ) (input : Input) → Says (map string_bytes words.now) command → S.rest source.old ≡ Some bytes → length bytes ≤ document_limit → Means bytes input
+    ensures complete { (command : Command) (bytes : List ℕ) (input : Input) → Says (map string_bytes words.now) command → Reads command → S.rest source.old ≡ Some bytes → length bytes ≤ document_limit → Means bytes input
         → ¬ Rose (S.faults source.old) (S.faults source.new) → ¬ Rose (K.faults sink.old) (K.faults sink.new)
         → (result ≡ Status.Ok) ⊎ (result ≡ Status.OutOfMemory) }
 
     // One that has a fault is refused for it, unless memory is wanted or a fault was counted.
-    ensures faulty { (command : Command) (bytes : List ℕ) (fault : Fault) → Says (map string_bytes words.now) command → S.rest source.old ≡ Some bytes → length bytes ≤ document_limit → HasFault bytes fault
+    ensures faulty { (command : Command) (bytes : List ℕ) (fault : Fault) → Says (map string_bytes words.now) command → Reads command → S.rest source.old ≡ Some bytes → length bytes ≤ document_limit → HasFault bytes fault
         → ¬ Rose (S.faults source.old) (S.faults source.new)
         → IsRefusedFor result fault ⊎ (result ≡ Status.OutOfMemory) }
 
     // More bytes than a document has are refused for that, whatever they are.
-    ensures too_long { (command : Command) (bytes : List ℕ) → Says (map string_bytes words.now) command → S.rest source.old ≡ Some bytes → document_limit < length bytes
+    ensures too_long { (command : Command) (bytes : List ℕ) → Says (map string_bytes words.now) command → Reads command → S.rest source.old ≡ Some bytes → document_limit < length bytes
         → ¬ Rose (S.faults source.old) (S.faults source.new)
         → (result ≡ Status.Refused too_long) ⊎ (result ≡ Status.OutOfMemory) }
 {

@@ -1,8 +1,10 @@
 pub mod Walks
 pub mod Parses
-pub mod RunValues
+pub mod FoundValues
 pub mod Numbers
 pub mod Spelling
+pub mod Gives
 pub mod Saying
-pub mod Giving
+pub mod RunWords
+pub mod SoakWords
 pub mod Commands

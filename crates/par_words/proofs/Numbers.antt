@@ -50,22 +50,22 @@ plain_decimal : (n : ℕ) → n < 2 ^ 64 → is_plain (decimal n) ≡ true
 plain_decimal n h = plain_so (decimal n) (record { digits = decimal_digits n h; some = decimal_nonempty n h; lead = lead_decimal n h })
 
 -- a number's text passes the test
-pub only_plain : (text : List ℕ) (b : Bool) → b ≡ is_plain text → b ≡ false → (n : ℕ) → n < 256 → ¬ (text ≡ decimal n)
+pub only_plain : (text : List ℕ) (b : Bool) → b ≡ is_plain text → b ≡ false → (n : ℕ) → n < 65536 → ¬ (text ≡ decimal n)
 only_plain text b is none n small e =
     let passed : is_plain text ≡ true = ap is_plain e ∙ plain_decimal n (omega (arith, small)) in cc
 
-writes : (text : List ℕ) → IsPlain text → digits_value 10 text < 256 → text ≡ decimal (digits_value 10 text)
+writes : (text : List ℕ) → IsPlain text → digits_value 10 text < 65536 → text ≡ decimal (digits_value 10 text)
 writes text p small = sym (decimal-digits_value own text p.digits p.some p.lead (omega (arith, small)))
 
 -- what passes the test is parsed as the number whose text it is, if that is small
-pub parsed : {E : Type 0} (text : List ℕ) (r : Result ℕ E) (o : Option ℕ) → is_plain text ≡ true → ParsesUnsigned 8 10 text r → o ≡ result_ok r
-    → MatchOption o ((n : ℕ) → n < 256 → ¬ (text ≡ decimal n)) (λ n. text ≡ decimal n)
+pub parsed : {E : Type 0} (text : List ℕ) (r : Result ℕ E) (o : Option ℕ) → is_plain text ≡ true → ParsesUnsigned 16 10 text r → o ≡ result_ok r
+    → MatchOption o ((n : ℕ) → n < 65536 → ¬ (text ≡ decimal n)) (λ n. text ≡ decimal n)
 parsed {E = E} text (Ok x) o plain read is =
     let p = is_told text plain in
-    let got = parse_digits own {E = E} 8 text (Ok x) read p.digits in
-    subst (λ (q : Option ℕ). MatchOption q ((n : ℕ) → n < 256 → ¬ (text ≡ decimal n)) (λ n. text ≡ decimal n)) (sym is) (writes text p (omega (arith, got.0.1)) ∙ ap decimal (sym got.1))
+    let got = parse_digits own {E = E} 16 text (Ok x) read p.digits in
+    subst (λ (q : Option ℕ). MatchOption q ((n : ℕ) → n < 65536 → ¬ (text ≡ decimal n)) (λ n. text ≡ decimal n)) (sym is) (writes text p (omega (arith, got.0.1)) ∙ ap decimal (sym got.1))
 parsed {E = E} text (Err e) o plain read is =
     let p = is_told text plain in
-    let got = parse_digits own {E = E} 8 text (Err e) read p.digits in
-    subst (λ (q : Option ℕ). MatchOption q ((n : ℕ) → n < 256 → ¬ (text ≡ decimal n)) (λ n. text ≡ decimal n)) (sym is)
+    let got = parse_digits own {E = E} 16 text (Err e) read p.digits in
+    subst (λ (q : Option ℕ). MatchOption q ((n : ℕ) → n < 65536 → ¬ (text ≡ decimal n)) (λ n. text ≡ decimal n)) (sym is)
     (λ n small same. got (p.some, omega (arith, small, ap (digits_value 10) same, (decimal_is_IsNumeral n (omega (arith, small))).1)))

@@ -1,4 +1,4 @@
 pub mod Words
 pub mod Numerals
 pub mod OptionUses
-pub mod RunOptions
+pub mod CommandOptions

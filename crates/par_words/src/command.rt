@@ -1,9 +1,10 @@
 //! The command that words are.
 
 ghost use Rattle.std.specs.Prelude.{◌≡◌, ◌∷◌, codes, map, string_bytes, IfOk, IfSome, MatchOption};
-ghost use Rattle.par_words.specs.Words.{Says, IsCommand, HasWorkers, SayOneCommand};
+ghost use Rattle.par_words.specs.Words.{Says, IsCommand, IsInRange, SayOneCommand};
 
-use crate::options::read_run;
+use crate::run::read_run;
+use crate::soak::read_soak;
 use std::alloc::Global;
 use txn_types::OutOfMemory;
 
@@ -14,6 +15,8 @@ pub enum Command {
     Run { workers: u8, trace: bool },
     /// Prints the agreed blocks of a document, with what each transaction depends on.
     Graph,
+    /// Runs an input that is made from this seed, with so many transactions and workers, and prints a summary of it.
+    Soak { seed: u16, txns: u16, workers: u8 },
 }
 
 // `graph` has no options.
@@ -34,15 +37,16 @@ fn read_command(alloc: Global, first: &str, rest: &[String]) -> Result<Option<Co
     match first {
         "run" => read_run(alloc, rest),
         "graph" => Ok(read_graph(rest)),
+        "soak" => read_soak(alloc, rest),
         _ => Ok(None),
     }
 }
 
 /// The command that the words are, if they are one.
-#[tactic(auto, using(crate::proofs::Commands::has_workers))]
+#[tactic(auto, using(crate::proofs::Commands::in_range))]
 pub fn command_of(alloc: Global, words: &[String]) -> Result<Option<Command>, OutOfMemory>
     ensures says { IfOk result (λ command. MatchOption command (¬ IsCommand (map string_bytes words.now)) (Says (map string_bytes words.now))) }
-    ensures workers { IfOk result (λ command. IfSome command HasWorkers) }
+    ensures range { IfOk result (λ command. IfSome command IsInRange) }
 {
     match words {
         [] => Ok(None),

@@ -4,5 +4,7 @@
 mod command;
 mod number;
 mod options;
+mod run;
+mod soak;
 
 pub use command::{Command, command_of, words_are_one_command};

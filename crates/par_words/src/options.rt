@@ -1,17 +1,14 @@
 //! The options of a command, read with clap.
 
-ghost use Rattle.std.specs.Prelude.{ℕ, ◌≡◌, ◌≢◌, ◌∷◌, ⊤, None, codes, map, option_map, string_bytes, IfOk, MatchOption, MatchResult};
+ghost use Rattle.std.specs.Prelude.{◌≡◌, ◌≢◌, ⊤, None, true, map, string_bytes, IfOk, MatchOption, MatchResult};
 ghost use Rattle.std.specs.List.{list_any};
-ghost use Rattle.clap.specs.Words.{app_of, found_of};
-ghost use Rattle.par_words.specs.Words.{Says, IsCommand};
-ghost use Rattle.par_words.specs.OptionUses.{is_stray, uses_in};
-ghost use Rattle.par_words.specs.RunOptions.{run_app, run_options, is_true, IsRunOf, WritesWorkers};
+ghost use Rattle.clap.specs.Words.{app_of, found_of, is_simple, is_simple_and_free};
+ghost use Rattle.par_words.specs.OptionUses.{is_stray};
+ghost use Rattle.par_words.specs.CommandOptions.{bare_app, IsFound, IsNoneFound};
 
-use crate::command::Command;
-use crate::number::number;
 use clap::error::ErrorKind;
-use clap::{Arg, ArgAction, ArgMatches};
-use std::alloc::{AllocError, Global};
+use clap::{ArgMatches, Command};
+use std::alloc::Global;
 use txn_types::OutOfMemory;
 
 // A word that no command has, and that clap would take or look into by its letters.
@@ -32,21 +29,14 @@ fn has_stray(words: &[String]) -> bool
     words.iter().any(|word| is_stray(word.as_str()))
 }
 
-fn run_command<'a>(alloc: Global) -> Result<clap::Command<'a>, AllocError>
-    ensures { IfOk result (λ c. app_of c ≡ run_app) }
+/// A command with no options yet, and with no word for help or the version.
+pub fn bare_command<'a>(alloc: Global, name: &'a str) -> Command<'a>
+    ensures { app_of result ≡ bare_app name.now }
 {
-    let workers = Arg::new(alloc, "workers")
-        .long("workers")
-        .action(ArgAction::Set);
-    let trace = Arg::new(alloc, "trace")
-        .long("trace")
-        .action(ArgAction::SetTrue);
-    clap::Command::new(alloc, "run")
+    Command::new(alloc, name)
         .no_binary_name(true)
         .disable_help_flag(true)
         .disable_version_flag(true)
-        .arg(workers)?
-        .arg(trace)
 }
 
 // Each of clap's faults but want of memory is one of the words.
@@ -60,53 +50,21 @@ fn refused<T>(kind: ErrorKind) -> Result<Option<T>, OutOfMemory>
     }
 }
 
-// What clap finds, or none where the words are no options of `run`.
-fn run_matches<'a>(
-    alloc: Global,
+/// What clap finds, or none where it refuses the words or one of them is stray.
+pub fn find<'a>(
+    command: Command<'a>,
     words: &'a [String],
 ) -> Result<Option<ArgMatches<'a>>, OutOfMemory>
-    ensures { IfOk result (λ o. MatchOption o
-        (uses_in run_options (map string_bytes words.entry.now) ≡ None)
-        (λ m. IsRunOf (found_of m) (map string_bytes words.entry.now))) }
+    requires simple { is_simple (app_of command) ≡ true }
+    requires free { is_simple_and_free (app_of command) ≡ true }
+    ensures { IfOk result (λ o. MatchOption o (IsNoneFound (app_of command.entry) (map string_bytes words.entry.now))
+        (λ m. IsFound (app_of command.entry) (found_of m) (map string_bytes words.entry.now))) }
 {
     if has_stray(words) {
         return Ok(None);
     }
-    let command = run_command(alloc)?;
     match command.try_get_matches_from(words) {
         Ok(matches) => Ok(Some(matches)),
         Err(error) => refused(error.kind()),
     }
-}
-
-fn workers_of(text: Option<&str>) -> Option<u8>
-    ensures { MatchOption result ((n : ℕ) → ¬ WritesWorkers (option_map (λ t. t.now) text.entry) n) (WritesWorkers (option_map (λ t. t.now) text.entry)) }
-{
-    match text {
-        None => Some(4),
-        Some(text) => number(text, 1, 16),
-    }
-}
-
-fn is_true(text: Option<&str>) -> bool
-    ensures { result ≡ is_true (option_map (λ t. t.now) text.entry) }
-{
-    match text {
-        None => false,
-        Some(text) => text == "true",
-    }
-}
-
-/// The command that the word `run` and these words behind it are, if they are one.
-pub fn read_run(alloc: Global, words: &[String]) -> Result<Option<Command>, OutOfMemory>
-    ensures { IfOk result (λ command. MatchOption command (¬ IsCommand (codes "run" ∷ map string_bytes words.now)) (Says (codes "run" ∷ map string_bytes words.now))) }
-{
-    let Some(matches) = run_matches(alloc, words)? else {
-        return Ok(None);
-    };
-    let Some(workers) = workers_of(matches.get_str("workers")) else {
-        return Ok(None);
-    };
-    let trace = is_true(matches.get_str("trace"));
-    Ok(Some(Command::Run { workers, trace }))
 }

@@ -2,14 +2,14 @@ use Rattle.std.proofs.Common.{◌≡◌, None, map, string_bytes, rules}
 use Rattle.std.specs.declared.alloc.Global.{Global}
 use Rattle.clap.specs.Words.{found_of}
 use Rattle.par_words.specs.OptionUses.{uses_in}
-use Rattle.par_words.specs.RunOptions.{run_options, IsRunOf}
-use Rattle.par_words.proofs.Commands.{not_read, no_run, one_run}
-use Rattle.par_words.proofs.options.read_run.Goals as goal
+use Rattle.par_words.specs.CommandOptions.{run_options, IsRunOf}
+use Rattle.par_words.proofs.RunWords.{run_not_read, no_run, one_run}
+use Rattle.par_words.proofs.run.read_run.Goals as goal
 
 pub returns-in_default : goal.returns-in_default
 returns-in_default c =
     let none : uses_in run_options (map (string_bytes {Z = Global}) c.args.words.now) ≡ None = search rules in
-    not_read _ none
+    run_not_read _ none
 
 pub returns-in_default-workers_of : goal.returns-in_default-workers_of
 returns-in_default-workers_of c =

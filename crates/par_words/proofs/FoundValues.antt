@@ -1,22 +1,20 @@
--- What clap's matches say of the options of `run`.
-use Rattle.std.proofs.Common.{◌≡◌, ◌∙◌, ◌||◌, Bool, true, false, cond, refl, sym, ap, subst, List, [], ◌∷◌, ◌++◌, Option, Some, None, codes, option_map, option_and_then, slice_get}
+-- What clap's matches say of the options of a command.
+use Rattle.std.proofs.Common.{◌≡◌, ◌∙◌, ℕ, ◌||◌, Bool, true, false, cond, refl, sym, ap, subst, List, [], ◌∷◌, ◌++◌, Option, Some, None, codes, option_map, option_and_then, slice_get}
 use Rattle.std.specs.Prelude.{find, fold, Result, Ok, Err, MatchResult, MatchOption, IfOk, ⊤, ◌⊎◌}
 use Rattle.std.proofs.Common.{inl, inr}
 use Rattle.clap.specs.Kinds.{Kinds, IsAmong}
 use Rattle.clap.specs.declared.error.kind.ErrorKind.{ErrorKind}
 use Rattle.clap.specs.declared.error.kind.ErrorKind.TheVariants as kind
-use Rattle.std.specs.List.{list_any}
 use Rattle.std.specs.Str.{bytes_eq}
 use Rattle.clap.specs.Walk as walk
 use Rattle.clap.specs.Walk.{Row, Rule, Text, with_default, first_of, has_row, rows_of, at_row}
-use Rattle.clap.specs.Simple.{built, matches_of}
-use Rattle.clap.specs.Faults.{fault_of}
+use Rattle.clap.specs.Simple.{App, built}
 use Rattle.clap.specs.declared.parser.matches.Found.{Found}
 use Rattle.clap.proofs.WalkLemmas.{first_value-rows}
 use Rattle.clap.specs.declared.parser.matches.ValueSource.TheVariants.{DefaultValue}
 use Rattle.clap.specs.declared.builder.value_parser.Reading.TheVariants as how
-use Rattle.par_words.specs.OptionUses.{Use, is_given, is_stray, uses_in}
-use Rattle.par_words.specs.RunOptions.{run_options, run_app, value_in, is_true, IsRunOf}
+use Rattle.par_words.specs.OptionUses.{Use, is_given, uses_in}
+use Rattle.par_words.specs.CommandOptions.{run_options, soak_options, run_app, soak_app, value_in, is_true, IsFound, IsNoneFound, IsRunOf, IsSoakOf}
 use Rattle.par_words.proofs.Walks.{row_for, rows_for, rule_for, rules_for, row_given, at_row_fresh}
 use Rattle.par_words.proofs.Parses.{app_for, parse_ok, parse_err, stray_read}
 
@@ -55,8 +53,8 @@ find_last n (u ∷ us) y is e = go (bytes_eq u.0 n) e (find_last n us y is)
 abbrev untraced : Row
 untraced = record { id = codes "trace"; values = codes "false" ∷ []; count = None; source = Some DefaultValue; reading = how.AsWritten }
 
-no_default : (rows : List Row) → with_default rows (rule_for (codes "workers", true)) ≡ rows
-no_default rows = go (has_row (codes "workers") rows)
+no_default : (name : Text) (rows : List Row) → with_default rows (rule_for (name, true)) ≡ rows
+no_default name rows = go (has_row name rows)
   where
     go : (b : Bool) → cond b rows rows ≡ rows
     go true = refl
@@ -90,7 +88,7 @@ last_values uses false e =
 run_rows : (uses : List Use) → Values uses (fold with_default (rows_for uses) (rules_for run_options))
 run_rows uses =
     subst (Values uses)
-    (sym (ap (λ rows. with_default rows (rule_for (codes "trace", false))) (no_default (rows_for uses))
+    (sym (ap (λ rows. with_default rows (rule_for (codes "trace", false))) (no_default (codes "workers") (rows_for uses))
     ∙ flag_default uses (is_given uses (codes "trace")) refl))
     (last_values uses (is_given uses (codes "trace")) refl)
 
@@ -98,11 +96,10 @@ built_run : built run_app ≡ app_for (codes "run") run_options
 built_run = refl
 
 -- on words that clap takes
-pub run_found : (found : Found) (words : List Text) → list_any is_stray words ≡ false → fault_of run_app words ≡ []
-    → rows_of found ≡ matches_of run_app words → IsRunOf found words
-run_found found words stray no_fault rows =
-    let got = parse_ok run_app (codes "run") run_options words built_run refl stray no_fault in
-    let same : rows_of found ≡ fold with_default (rows_for got.0) (rules_for run_options) = rows ∙ got.2 in
+run_found : (found : Found) (words : List Text) → IsFound run_app found words → IsRunOf found words
+run_found found words is =
+    let got = parse_ok run_app (codes "run") run_options words built_run refl is.plain is.no_fault in
+    let same : rows_of found ≡ fold with_default (rows_for got.0) (rules_for run_options) = is.rows ∙ got.2 in
     let values = run_rows got.0 in record {
       uses = got.0;
       gives = got.1;
@@ -110,12 +107,52 @@ run_found found words stray no_fault rows =
       trace = ap is_true (first_value-rows found (codes "trace") ∙ ap (first_of (codes "trace")) same) ∙ values.1;
     }
 
--- on words that clap refuses
-pub run_refused : (words : List Text) → list_any is_stray words ≡ false → (fault_of run_app words ≡ [] → ⊥) → uses_in run_options words ≡ None
-run_refused words stray fault = parse_err run_app (codes "run") run_options words built_run refl stray fault
+-- on words that it refuses, or one of which is stray
+run_none : (words : List Text) → IsNoneFound run_app words → uses_in run_options words ≡ None
+run_none words (inl stray) = stray_read run_options _ words refl stray
+run_none words (inr fault) = parse_err run_app (codes "run") run_options words built_run refl fault.0 fault.1
 
-pub run_stray : (words : List Text) → list_any is_stray words ≡ true → uses_in run_options words ≡ None
-run_stray words stray = stray_read run_options _ words refl stray
+soak_rows : (uses : List Use) → fold with_default (rows_for uses) (rules_for soak_options) ≡ rows_for uses
+soak_rows uses =
+    ap (λ rows. with_default (with_default rows (rule_for (codes "txns", true))) (rule_for (codes "workers", true))) (no_default (codes "seed") (rows_for uses))
+    ∙ ap (λ rows. with_default rows (rule_for (codes "workers", true))) (no_default (codes "txns") (rows_for uses))
+    ∙ no_default (codes "workers") (rows_for uses)
+
+built_soak : built soak_app ≡ app_for (codes "soak") soak_options
+built_soak = refl
+
+soak_found : (found : Found) (words : List Text) → IsFound soak_app found words → IsSoakOf found words
+soak_found found words is =
+    let got = parse_ok soak_app (codes "soak") soak_options words built_soak refl is.plain is.no_fault in
+    let same : rows_of found ≡ rows_for got.0 = is.rows ∙ got.2 ∙ soak_rows got.0 in record {
+      uses = got.0;
+      gives = got.1;
+      seed = first_value-rows found (codes "seed") ∙ ap (first_of (codes "seed")) same ∙ first_row (codes "seed") got.0;
+      txns = first_value-rows found (codes "txns") ∙ ap (first_of (codes "txns")) same ∙ first_row (codes "txns") got.0;
+      workers = first_value-rows found (codes "workers") ∙ ap (first_of (codes "workers")) same ∙ first_row (codes "workers") got.0;
+    }
+
+soak_none : (words : List Text) → IsNoneFound soak_app words → uses_in soak_options words ≡ None
+soak_none words (inl stray) = stray_read soak_options _ words refl stray
+soak_none words (inr fault) = parse_err soak_app (codes "soak") soak_options words built_soak refl fault.0 fault.1
+
+answer_as : {M E : Type 0} (none other : Type 0) (P Q : M → Type 0) → (none → other) → ((m : M) → P m → Q m) → (r : Result (Option M) E) → IfOk r (λ o. MatchOption o none P) → IfOk r (λ o. MatchOption o other Q)
+answer_as none other P Q f g (Ok None) h = f h
+answer_as none other P Q f g (Ok (Some m)) h = g m h
+answer_as none other P Q f g (Err e) h = tt
+
+-- an answer of clap to a command's words
+pub run_answer : {M E : Type 0} (found_in : M → Found) (app : App) (words : List (List ℕ)) → app ≡ run_app → (r : Result (Option M) E)
+    → IfOk r (λ o. MatchOption o (IsNoneFound app words) (λ m. IsFound app (found_in m) words))
+    → IfOk r (λ o. MatchOption o (uses_in run_options words ≡ None) (λ m. IsRunOf (found_in m) words))
+run_answer found_in app words is r h =
+    answer_as _ _ _ _ (λ none. run_none words (subst (λ (a : App). IsNoneFound a words) is none)) (λ m found. run_found (found_in m) words (subst (λ (a : App). IsFound a (found_in m) words) is found)) r h
+
+pub soak_answer : {M E : Type 0} (found_in : M → Found) (app : App) (words : List (List ℕ)) → app ≡ soak_app → (r : Result (Option M) E)
+    → IfOk r (λ o. MatchOption o (IsNoneFound app words) (λ m. IsFound app (found_in m) words))
+    → IfOk r (λ o. MatchOption o (uses_in soak_options words ≡ None) (λ m. IsSoakOf (found_in m) words))
+soak_answer found_in app words is r h =
+    answer_as _ _ _ _ (λ none. soak_none words (subst (λ (a : App). IsNoneFound a words) is none)) (λ m found. soak_found (found_in m) words (subst (λ (a : App). IsFound a (found_in m) words) is found)) r h
 
 -- an error of clap's that isn't want of memory
 pub faulty : (k : ErrorKind) (kinds : Kinds) → (k ≡ kind.OutOfMemory) ⊎ IsAmong k kinds → (k ≡ kind.OutOfMemory → ⊥) → kinds ≡ [] → ⊥
@@ -123,8 +160,8 @@ faulty k kinds (inl is) other none = other is
 faulty k [] (inr among) other none = among
 faulty k (x ∷ xs) (inr among) other none = cc
 
-pub refused_run : {T E : Type 0} (P : T → Type 0) (none : Type 0) (r : Result (Option T) E) (other : Type 0) → MatchResult r (λ o. (o ≡ None) × other) (λ _. ⊤)
+pub refused_so : {T E : Type 0} (P : T → Type 0) (none : Type 0) (r : Result (Option T) E) (other : Type 0) → MatchResult r (λ o. (o ≡ None) × other) (λ _. ⊤)
     → (other → none) → IfOk r (λ o. MatchOption o none P)
-refused_run P none (Ok None) other h f = f h.1
-refused_run P none (Ok (Some x)) other h f = cc
-refused_run P none (Err e) other h f = tt
+refused_so P none (Ok None) other h f = f h.1
+refused_so P none (Ok (Some x)) other h f = cc
+refused_so P none (Err e) other h f = tt
