@@ -7,7 +7,7 @@ use native.Mathlib.Decide.{ℕ_discrete, dec_lt}
 use lib.ListN.{get_elem?}
 use Rattle.std.proofs.lemmas.List.{append-nil, get_or-take, get_or_append_left, get_or_past, length-append, length-take-le}
 use Rattle.std.proofs.Math.Seq.{get_or-append_seam}
-use Rattle.std.proofs.lemmas.Bool.{false≢true, ltb-true, lt-ltb, le-ltb, and_parts, and_from, cases_lt, ne_eqb}
+use Rattle.std.proofs.lemmas.Bool.{false≢true, ltb-true, lt-ltb, le-ltb, and_left, and_right, and_parts, and_from, cases_lt, ne_eqb}
 use Rattle.atomic_table.specs.Table.{opening}
 use Rattle.txn_types.specs.declared.txn.Kind.{Kind}
 use Rattle.txn_types.specs.declared.txn.Txn.{Txn}
@@ -196,6 +196,10 @@ waits_below plan s y h l = ap one_if (go (is_own plan y) refl)
     go : (b : Bool) → is_own plan y ≡ b → waits plan s y ≡ false
     go true e = absurd (let b = own_below plan h y e in omega arith)
     go false e = ap (λ b. b && (not (is_some (known_at plan s)) && is_edge plan s y)) e
+
+-- nor does what is not behind it
+pub waits_behind : (plan : Plan) (s y : ℕ) → y ≤ s → one_if (waits plan s y) ≡ 0
+waits_behind plan s y le = ap one_if (and_right (is_own plan y) _ (and_right (not (is_some (known_at plan s))) _ (and_left (nat_lt s y) _ (le-ltb s y le))))
 
 -- the rows, one more
 pub rows_more : (rows after : List (List ℕ)) (row : List ℕ) (s : ℕ) (P : ℕ → List ℕ → Type 0) → after ≡ rows ++ row ∷ [] → length rows ≡ s → P s row → ((x : ℕ) → x < s → P x (get_or rows x [])) → (x : ℕ) → x < s + 1 → P x (get_or after x [])

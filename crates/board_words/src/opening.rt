@@ -43,7 +43,7 @@ fn add_where(row: &mut GrowingList<u16>, waits: bool, t: u16) -> Result<(), OutO
     Ok(())
 }
 
-// The own positions that wait for s.
+// The own positions that wait for s. Only those after it may.
 fn row_of(alloc: Global, plan: &Plan<'_>, s: usize) -> Result<GrowingList<u16>, OutOfMemory>
     requires planned { IsGraphed plan.now }
     requires place { s < length plan.now.block.now.txns }
@@ -51,7 +51,8 @@ fn row_of(alloc: Global, plan: &Plan<'_>, s: usize) -> Result<GrowingList<u16>, 
     ensures edges { IfOk result (λ row. (y : ℕ) → times y row ≡ (script (plan_of plan.now)).edge s y) }
 {
     let mut row = GrowingList::new(alloc);
-    for t in 0..plan.block.txns.len() {
+    let count = plan.block.txns.len();
+    for t in s + 1..count {
         let waits = waits_for(plan, s, t);
         add_where(&mut row, waits, t as u16)?;
     }
