@@ -1,5 +1,5 @@
 -- What is told by how a command ends.
-use Rattle.std.proofs.Common.{◌≡◌, ◌⊎◌, ℕ, List, Option, refl, inl, inr, subst, sym}
+use Rattle.std.proofs.Common.{◌≡◌, ◌⊎◌, ℕ, List, Option, refl, inl, inr, subst}
 use Rattle.par_io.specs.Causes.{Rose}
 use Rattle.doc_forms.specs.declared.fault.DocFault.{DocFault}
 use Rattle.par_words.specs.declared.command.Command.{Command}

@@ -4,7 +4,6 @@ use Rattle.std.specs.List.{All}
 use Rattle.std.proofs.Common.{refl, sym, ap, subst, ◌∙◌, arith}
 use Rattle.txn_types.specs.declared.block.Block.{Block}
 use Rattle.txn_types.specs.declared.event.Event.{Event}
-use Rattle.txn_types.specs.declared.event.Event.TheVariants as event
 use Rattle.txn_types.specs.declared.message.Node.{Node}
 use Rattle.txn_types.specs.declared.stream.Item.{Item}
 use Rattle.txn_types.specs.declared.stream.Piece.{Piece}
@@ -18,7 +17,7 @@ use Rattle.txn_core.specs.States.{state_of}
 use Rattle.node_defs.specs.Admission.{AreLawfulPieces, pieces_of}
 use Rattle.node_defs.specs.Cutting.{rejected_from}
 use Rattle.node_defs.specs.Text.{text, IsTextOf}
-use Rattle.node_defs.specs.World.{World, Setting, setting_of, IsLawfulEvent, IsWorld, is_false, items_named, start}
+use Rattle.node_defs.specs.World.{World, setting_of, IsLawfulEvent, IsWorld, is_false, items_named, start}
 use Rattle.node_defs.proofs.LawfulEvents.{said_by_faulty}
 use Rattle.node_laws.proofs.Bodies.{lawful_pieces}
 use Rattle.text_laws.proofs.Counts.{carry_the_stream}

@@ -1,6 +1,6 @@
 //! The printed text of `soak`.
 
-ghost use Rattle.std.specs.Prelude.{◌≤◌, IfOk};
+ghost use Rattle.std.specs.Prelude.{IfOk};
 ghost use Rattle.par_words.specs.Words.{IsNumberOfTxns, IsNumberOfWorkers};
 ghost use Rattle.soak_text.specs.Summary.{IsSoakText};
 
