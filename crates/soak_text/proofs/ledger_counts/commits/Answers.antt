@@ -1,4 +1,4 @@
-use Rattle.std.proofs.Common.{rules, arith, not}
+use Rattle.std.proofs.Common.{rules, arith}
 use Rattle.std.specs.List.{count_by}
 use Rattle.std.proofs.lemmas.Grind.{common_steps}
 use Rattle.soak_text.specs.Summary.{is_commit}
