@@ -1,7 +1,6 @@
 -- The input that a seed makes is lawful.
-use Rattle.std.proofs.Common.{◌≡◌, ◌≤◌, ◌<◌, ℕ, zero, suc, ◌+◌, ◌%◌, ◌==◌, ◌&&◌, Bool, true, false, cond, nat_lt, List, [], ◌∷◌, length, map, replicate, refl, sym, subst, arith}
+use Rattle.std.proofs.Common.{◌≡◌, ◌≤◌, ◌<◌, ℕ, zero, suc, ◌+◌, ◌%◌, ◌==◌, ◌&&◌, Bool, true, false, cond, nat_lt, List, [], ◌∷◌, length, map, refl, sym, subst, arith}
 use Rattle.std.specs.Prelude.{codes}
-use Rattle.std.specs.Bool.{Decides}
 use Rattle.std.specs.List.{All, count_by, list_all, range_with_len}
 use Rattle.std.specs.Ordering.{nat_cmp}
 use Rattle.std.specs.declared.cmp.Ordering.{Ordering}
@@ -9,13 +8,11 @@ use Rattle.std.specs.declared.cmp.Ordering.TheVariants.{Less, Equal, Greater}
 use Rattle.std.specs.Cmp.Lexicographic.{slice_cmp}
 use Rattle.std.proofs.lemmas.Bool.{and_parts, cond_both, eqb-false, ltb-true, ltb-false}
 use Rattle.std.proofs.lemmas.Bool.Decides.{Decides-by_and}
-use Rattle.std.proofs.lemmas.List.{length-replicate}
 use Rattle.std.proofs.lemmas.List.Elements.{All-from_recursion, All-nil, All-cons, All-replicate}
 use Rattle.std.proofs.lemmas.List.Sums.{count_by-le-length, sum_by-cons}
 use Rattle.txn_types.specs.Names.{IsName}
 use Rattle.txn_types.specs.Rising.{IsRising}
 use Rattle.txn_types.specs.Values.{IsValue}
-use Rattle.txn_types.specs.declared.stream.Item.{Item}
 use Rattle.txn_types.specs.declared.stream.Item.TheVariants as item
 use Rattle.txn_types.specs.declared.block.Body.{Body}
 use Rattle.txn_types.specs.declared.event.Event.TheVariants as event
@@ -23,7 +20,7 @@ use Rattle.oxii_defs.specs.State.{State}
 use Rattle.oxii_defs.specs.Syntax.{Op}
 use Rattle.oxii_defs.specs.Table.{App, IsRecord}
 use Rattle.oxii_defs.specs.WellFormed.{AllDiffer}
-use Rattle.oxii_defs.specs.Lawful.{AreInOrder, AreAgents, IsLawfulApp, IsLawfulTable}
+use Rattle.oxii_defs.specs.Lawful.{AreInOrder, IsLawfulApp, IsLawfulTable}
 use Rattle.node_defs.specs.World.{AreLawfulEvents, IsLawfulEvent, setting_of}
 use Rattle.node_defs.specs.Admission.{IsLawfulItem, IsLawfulRequest, IsRequestArg, IsRequestSet}
 use Rattle.txn_core.specs.Checked.{all_differ}

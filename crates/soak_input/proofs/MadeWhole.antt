@@ -6,7 +6,7 @@ use Rattle.txn_types.specs.declared.message.Node.{Node}
 use Rattle.txn_types.specs.declared.stream.Item.{Item}
 use Rattle.oxii_defs.specs.Table.{Table}
 use Rattle.input_doc.specs.Inputs.{Input}
-use Rattle.soak_input.specs.Generator.{IsSoakInput, input_with, stream_behind, table_of}
+use Rattle.soak_input.specs.Generator.{IsSoakInput, stream_behind, table_of}
 use Rattle.soak_input.specs.Laws.{pay}
 use Rattle.soak_input.proofs.PayMeant.{pay_contract}
 

@@ -1,5 +1,5 @@
 -- What the text of the contract means.
-use Rattle.std.proofs.Common.{◌≡◌, List, [], ◌∷◌, Result, Err, map, refl, sym, subst, ◌∙◌}
+use Rattle.std.proofs.Common.{◌≡◌, List, [], ◌∷◌, Result, Err, refl, sym, subst, ◌∙◌}
 use Rattle.contract_grammar.specs.Lexer.{lexed, token_at, sign_at, single, number_of, word_of, word_in_block, word_in_expression}
 use Rattle.contract_grammar.specs.Expressions.{taken, ended}
 use Rattle.contract_grammar.specs.Limits.{tallied, passes}
@@ -9,7 +9,7 @@ use Rattle.contract_text.specs.declared.faults.Contract.{Contract}
 use Rattle.contract_text.specs.declared.faults.TextFault.{TextFault}
 use Rattle.contract_text.specs.declared.faults.TextFault.TheVariants as fault
 use Rattle.contract_text.specs.TextMeaning.{IsContract}
-use Rattle.contract_text.specs.Verdict.{Verdict, verdict, accepted, GivesVerdict}
+use Rattle.contract_text.specs.Verdict.{verdict, accepted, GivesVerdict}
 use Rattle.contract_text.proofs.Judged.{contract_of, one_contract}
 use Rattle.oxii_defs.specs.Syntax.{Op}
 use Rattle.soak_input.specs.Generator.{pay_text}

@@ -1,13 +1,10 @@
 -- What the world of a made input has.
-use Rattle.std.proofs.Common.{◌≡◌, ◌≤◌, ◌<◌, ℕ, Bool, true, false, List, length, Option, Some, None, sym, ap, subst, ◌∙◌, arith}
-use Rattle.std.specs.Prelude.{◌↔◌, IsNone, IsSome}
+use Rattle.std.proofs.Common.{◌≡◌, ◌≤◌, ◌<◌, ℕ, List, length, sym, ap, subst, arith}
 use Rattle.std.specs.List.{All}
 use Rattle.txn_types.specs.declared.block.Block.{Block}
-use Rattle.txn_types.specs.declared.message.Node.TheVariants.{Peer}
 use Rattle.oxii_defs.specs.Chain.{chain}
 use Rattle.oxii_defs.specs.Table as meant
 use Rattle.node_defs.specs.Rules.{Rules}
-use Rattle.node_laws.specs.Named.{is_named}
 use Rattle.txn_core.specs.MeantTable.{table_of}
 use Rattle.world_laws.specs.Worlds.{KeptWorld}
 use Rattle.input_doc.specs.Inputs.{Input}
@@ -21,16 +18,8 @@ module _ (seed txns : ℕ) (k : KeptWorld) (blocks : List Block) (w : IsSoakWorl
   pub first_there : 0 < length k.table.peers
   first_there = omega (arith, ap (λ (t : meant.Table). length t.peers) table_is, ap (λ (i : Input). length i.table.peers) w.made.is)
 
-  pub first_works : is_named k.faulty (Peer 0) ≡ false
-  first_works = ap (λ fs. is_named fs (Peer 0)) (sym w.stands.setting.faulty_are ∙ ap (λ (i : Input). i.faulty) w.made.is)
-
   pub blocks_few : All (λ b. length b.txns ≤ 256) blocks
   blocks_few =
       subst (λ (bs : List Block). All (λ b. length b.txns ≤ 256) bs) (sym w.blocks_are)
       (subst (λ n. All (λ (b : Block). length b.txns ≤ n) (chain w.input.table w.bodies)) (ap (λ (i : Input). i.limits.txns) w.made.is)
       (chain_few w.input.table w.input.limits w.input.items w.bodies w.agreed))
-
--- what is none only under a false test is something
-pub some_under : {A : Type 0} (o : Option A) (b : Bool) → IsNone o ↔ (b ≡ true) → b ≡ false → IsSome o
-some_under None b h works = let e = h.0 tt in absurd cc
-some_under (Some x) b h works = tt

@@ -1,5 +1,5 @@
 -- The sum of a state is that of its values.
-use Rattle.std.proofs.Common.{◌≡◌, ℕ, zero, suc, ◌+◌, List, [], ◌∷◌, length, get_or, drop, refl, ap, ◌∙◌, arith}
+use Rattle.std.proofs.Common.{◌≡◌, ℕ, zero, suc, ◌+◌, List, length, get_or, drop, sym, ap, ◌∙◌, arith}
 use Rattle.std.specs.List.{sum, sum_by}
 use Rattle.std.proofs.lemmas.List.Sums.{sum_by-cons, sum_by-drop_more}
 use Rattle.std.proofs.lemmas.List.{drop_all}
@@ -9,7 +9,7 @@ use Rattle.txn_core.specs.States.{state_of}
 use Rattle.txn_core.proofs.StateLemmas.{value_of_state}
 
 sum_from : (values : List ℕ) (i n : ℕ) → i + n ≡ length values → sum_by (value_in (state_of values)) (count_from i n) ≡ sum (drop i values)
-sum_from values i zero all = ap sum (sym (drop_all values i (omega arith)))
+sum_from values i zero all = ap sum (sym (drop_all i values (omega arith)))
 sum_from values i (suc n) all =
     let more = sum_from values (suc i) n (omega arith) in
     let one : suc i ≡ i + 1 = omega arith in

@@ -1,12 +1,25 @@
 //! The dependent pairs of blocks.
 
-ghost use Rattle.std.specs.Prelude.{◌≡◌, ◌≤◌, length, IfOk};
+ghost use Rattle.std.specs.Prelude.{◌≡◌, ◌≤◌, length, sum_by, IfOk};
 ghost use Rattle.std.specs.List.{All};
 ghost use Rattle.soak_text.specs.Summary.{dependent_pairs, edges};
 
 use dep_graph::build;
 use std::alloc::Global;
+use txn_core::Graph;
 use txn_types::{Block, Kind, OutOfMemory};
+
+// How many pairs a graph has.
+fn pairs_of(graph: &Graph) -> u32
+    requires { sum_by length graph.now.preds ≤ 65536 }
+    ensures { result ≡ sum_by length graph.now.preds }
+{
+    let mut pairs = 0u32;
+    for t in 0..graph.len() {
+        pairs += graph.preds(t).len() as u32;
+    }
+    pairs
+}
 
 // How many pairs of a block's transactions are dependent.
 fn dependent_pairs(alloc: Global, kind: Kind, block: &Block) -> Result<u32, OutOfMemory>
@@ -14,11 +27,7 @@ fn dependent_pairs(alloc: Global, kind: Kind, block: &Block) -> Result<u32, OutO
     ensures { IfOk result (λ pairs. pairs ≡ dependent_pairs kind block.now) }
 {
     let graph = build(alloc, block, kind)?;
-    let mut pairs = 0u32;
-    for t in 0..graph.len() {
-        pairs += graph.preds(t).len() as u32;
-    }
-    Ok(pairs)
+    Ok(pairs_of(&graph))
 }
 
 /// How many there are in all blocks.

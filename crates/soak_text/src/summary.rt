@@ -4,6 +4,7 @@ ghost use Rattle.std.specs.Prelude.{◌≤◌, IfOk};
 ghost use Rattle.soak_text.specs.Summary.{IsSoakText};
 ghost use Rattle.soak_text.specs.Played.{IsSoakWorld};
 
+use crate::ledger_counts::tip;
 use crate::lines::{push_chain, push_count, push_ledger, push_options, push_tip};
 use crate::values::total;
 use schedule_run::World;
@@ -30,6 +31,6 @@ pub fn soak_report(
     push_ledger(&mut text, peer.ledger())?;
     push_count(&mut text, b"sum", total(peer.state().as_slice()))?;
     push_count(&mut text, b"messages", u128::from(world.messages()))?;
-    push_tip(&mut text, table, peer.ledger())?;
+    push_tip(&mut text, &tip(table, peer.ledger()))?;
     Ok(text)
 }

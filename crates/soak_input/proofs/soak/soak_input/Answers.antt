@@ -1,5 +1,4 @@
 use Rattle.txn_core.specs.MeantTable.{table_of}
-use Rattle.input_doc.specs.Held.{input_of}
 use Rattle.soak_input.proofs.MadeLawful.{made_lawful}
 use Rattle.soak_input.proofs.MadeWhole.{made_of}
 use Rattle.soak_input.proofs.soak.soak_input.Goals as goal

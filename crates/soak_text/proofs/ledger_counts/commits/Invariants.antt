@@ -1,4 +1,4 @@
-use Rattle.std.proofs.Common.{◌≡◌, ◌≤◌, ◌*◌, not, take}
+use Rattle.std.proofs.Common.{◌≡◌, ◌≤◌, ◌*◌, take}
 use Rattle.std.specs.List.{sum_by, count_by}
 use Rattle.soak_text.specs.Summary.{is_commit}
 use Rattle.soak_text.proofs.ledger_counts.commits.Given as goal

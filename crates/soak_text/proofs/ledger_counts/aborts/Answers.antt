@@ -1,0 +1,16 @@
+use Rattle.std.proofs.Common.{rules, arith, not}
+use Rattle.std.specs.List.{count_by}
+use Rattle.std.proofs.lemmas.Grind.{common_steps}
+use Rattle.soak_text.specs.Summary.{is_commit}
+use Rattle.soak_text.proofs.Counts.{counted_all, counted_more}
+use Rattle.soak_text.proofs.ledger_counts.aborts.Goals as goal
+
+pub loop-i-preserved : goal.loop-i-preserved
+loop-i-preserved c = (
+  counted_more (count_by (λ o. not (is_commit o))) c.args.ledger.now c.loop-i.i c.outcomes.result.now c.as_slice.result.now c.loop-i.count c.aborts_of.result
+      (omega (arith, c.loop-i-test.true, c.len-i-end.ensures.len)) c.outcomes.ensures c.as_slice.ensures c.aborts_of.ensures c.loop-i.invariant.0,
+  first_of (search rules, grind (arith, common_steps)),
+)
+
+pub returns : goal.returns
+returns c = counted_all (count_by (λ o. not (is_commit o))) c.args.ledger.now c.loop-i.i c.loop-i.count (omega (arith, c.loop-i-test.false, c.len-i-end.ensures.len)) c.loop-i.invariant.0
