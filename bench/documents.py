@@ -51,19 +51,19 @@ def transfers(count, records, apps):
     ]
 
 
-def application(number, nodes, contract, clients):
-    """Two agents, or one where there is one peer."""
-    agents = sorted({(number - 1) % nodes, number % nodes})
+def application(number, nodes, contract, clients, agents):
+    """An application whose agents must all agree: so many peers, from the one of its number on."""
+    chosen = sorted((number - 1 + i) % nodes for i in range(min(agents, nodes)))
     return {
         "name": f"a{number}",
-        "agents": [f"p{1 + agent}" for agent in agents],
-        "tau": len(agents),
+        "agents": [f"p{1 + agent}" for agent in chosen],
+        "tau": len(chosen),
         "clients": [f"c{1 + i}" for i in range(clients)],
         "contract": contract,
     }
 
 
-def document(stream, *, records, nodes, block, apps=4, contract=LIGHT, clients=1, faulty=(), schedule=None):
+def document(stream, *, records, nodes, block, apps=4, contract=LIGHT, clients=1, agents=2, faulty=(), schedule=None):
     return {
         "version": 1,
         "kind": "full",
@@ -72,7 +72,7 @@ def document(stream, *, records, nodes, block, apps=4, contract=LIGHT, clients=1
         "orderers": [f"o{1 + i}" for i in range(nodes)],
         "quorum": nodes // 2 + 1,
         "peers": [f"p{1 + i}" for i in range(nodes)],
-        "apps": [application(1 + i, nodes, contract, clients) for i in range(apps)],
+        "apps": [application(1 + i, nodes, contract, clients, agents) for i in range(apps)],
         "stream": stream,
         "faulty": list(faulty),
         "schedule": [{"do": "all"}] if schedule is None else schedule,
@@ -121,18 +121,18 @@ def heavy(count, chained):
 
 
 def at_every_limit():
-    """No faulty node, and every other limit that can be met at once."""
+    """No faulty node, and every other limit that can be met at once: each peer is an agent of each application."""
     stream = transfers(TRANSACTIONS_MOST, RECORDS_MOST, 16)
     for i in range(CONFIGURATIONS_MOST):
         app = 1 + i % 16
-        agents = application(app, NODES_MOST, LIGHT, 0)["agents"]
-        stream.insert(17 * i, {"config": f"a{app}", "agents": agents, "tau": len(agents)})
+        agents = [f"p{1 + peer}" for peer in range(NODES_MOST)]
+        stream.insert(17 * i, {"config": f"a{app}", "agents": agents, "tau": NODES_MOST})
     schedule = [
         {"do": "deliver", "msg": 1 + i, "to": f"p{1 + i % 16}"} for i in range(EVENTS_MOST - 1)
     ]
     return document(
         stream, records=RECORDS_MOST, nodes=NODES_MOST, block=1, apps=16,
-        clients=CLIENTS_MOST, schedule=schedule + [{"do": "all"}],
+        clients=CLIENTS_MOST, agents=NODES_MOST, schedule=schedule + [{"do": "all"}],
     )
 
 
