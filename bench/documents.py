@@ -2,11 +2,11 @@
 
 import json
 
-# A body that takes some forty thousand steps: the greatest product of nested repeats, with an expression inside.
+# A body that runs some forty thousand assignments: the greatest product of nested repeats, with forty inside.
 HEAVY = (
     "op pay(from:record,to:record,n:number){let x=0;repeat 64{repeat 16{"
-    "x=(x*31+n+7)%1000003;x=(x*17+3)%1000033;x=(x*13+1)%1000037;}}"
-    "from=from-n;to=to+n+x-x;}"
+    + "x=(x*31+n+7)%1000003;" * 40
+    + "}}from=from-n;to=to+n+x-x;}"
 )
 LIGHT = "op pay(from:record,to:record,n:number){require from>=n;from=from-n;to=to+n;}"
 

@@ -7,7 +7,31 @@
 
 use peer_core::{BlockSpans, Peer, Took};
 use std::alloc::{AllocError, Global};
+use std::fmt::Debug;
 use txn_types::{Block, Commit, Config, Outcome, Split, Vote};
+
+// A number in decimals, a list of numbers in brackets, or a name.
+fn push_shown<T: Debug>(alloc: Global, text: &mut String, shown: &T) -> Result<(), AllocError> {
+    text.push_str(format!(in alloc; "{shown:?}")?.as_str())
+}
+
+// Words, and a number behind them.
+fn push_number(
+    alloc: Global,
+    text: &mut String,
+    words: &str,
+    number: u64,
+) -> Result<(), AllocError> {
+    text.push_str(words)?;
+    push_shown(alloc, text, &number)
+}
+
+fn push_entry(alloc: Global, text: &mut String, entry: Option<u64>) -> Result<(), AllocError> {
+    match entry {
+        Some(value) => push_shown(alloc, text, &value),
+        None => text.push_str("-"),
+    }
+}
 
 fn push_entries(
     alloc: Global,
@@ -17,10 +41,7 @@ fn push_entries(
     let mut comma = "";
     for entry in entries {
         text.push_str(comma)?;
-        match entry {
-            Some(value) => text.push_str(format!(in alloc; "{value}")?.as_str())?,
-            None => text.push_str("-")?,
-        }
+        push_entry(alloc, text, *entry)?;
         comma = ",";
     }
     Ok(())
@@ -29,19 +50,18 @@ fn push_entries(
 fn push_outcome(alloc: Global, text: &mut String, outcome: &Outcome) -> Result<(), AllocError> {
     match outcome {
         Outcome::Commit(entries) => push_entries(alloc, text, entries.as_slice()),
-        Outcome::Abort(reason) => text.push_str(format!(in alloc; "{reason:?}")?.as_str()),
+        Outcome::Abort(reason) => push_shown(alloc, text, reason),
     }
 }
 
 fn push_vote(alloc: Global, text: &mut String, vote: &Vote) -> Result<(), AllocError> {
-    let number = u32::from(vote.t) + 1;
-    text.push_str(format!(in alloc; " {number}=")?.as_str())?;
+    push_number(alloc, text, " ", u64::from(vote.t) + 1)?;
+    text.push_str("=")?;
     push_outcome(alloc, text, &vote.outcome)
 }
 
 fn push_commit(alloc: Global, text: &mut String, commit: &Commit) -> Result<(), AllocError> {
-    let number = commit.n;
-    text.push_str(format!(in alloc; "; sends {number}")?.as_str())?;
+    push_number(alloc, text, "; sends ", commit.n)?;
     for vote in commit.votes.as_slice() {
         push_vote(alloc, text, vote)?;
     }
@@ -49,11 +69,9 @@ fn push_commit(alloc: Global, text: &mut String, commit: &Commit) -> Result<(), 
 }
 
 fn push_spans(alloc: Global, text: &mut String, spans: &BlockSpans) -> Result<(), AllocError> {
-    let number = spans.n;
-    text.push_str(format!(in alloc; "; runs {number}")?.as_str())?;
+    push_number(alloc, text, "; runs ", spans.n)?;
     for span in spans.spans.as_slice() {
-        let number = u32::from(span.t) + 1;
-        text.push_str(format!(in alloc; " {number}")?.as_str())?;
+        push_number(alloc, text, " ", u64::from(span.t) + 1)?;
     }
     Ok(())
 }
@@ -65,8 +83,9 @@ pub fn push_answer(
     row: &str,
     took: &Took,
 ) -> Result<(), AllocError> {
-    let note = took.note;
-    text.push_str(format!(in alloc; "{row} => {note:?}")?.as_str())?;
+    text.push_str(row)?;
+    text.push_str(" => ")?;
+    push_shown(alloc, text, &took.note)?;
     for spans in took.spans.as_slice() {
         push_spans(alloc, text, spans)?;
     }
@@ -84,10 +103,21 @@ fn push_hash(alloc: Global, text: &mut String, hash: &[u8; 32]) -> Result<(), Al
 }
 
 fn push_config(alloc: Global, text: &mut String, config: &Config) -> Result<(), AllocError> {
-    let app = config.app;
-    let tau = config.tau;
-    let agents = config.agents.as_slice();
-    text.push_str(format!(in alloc; "config {app} tau {tau} agents {agents:?}\n")?.as_str())
+    push_number(alloc, text, "config ", u64::from(config.app))?;
+    push_number(alloc, text, " tau ", u64::from(config.tau))?;
+    text.push_str(" agents ")?;
+    push_shown(alloc, text, &config.agents.as_slice())?;
+    text.push_str("\n")
+}
+
+fn push_outcomes(alloc: Global, text: &mut String, outcomes: &[Outcome]) -> Result<(), AllocError> {
+    for (i, outcome) in outcomes.iter().enumerate() {
+        push_number(alloc, text, "txn ", i as u64 + 1)?;
+        text.push_str(" ")?;
+        push_outcome(alloc, text, outcome)?;
+        text.push_str("\n")?;
+    }
+    Ok(())
 }
 
 fn push_block(
@@ -97,27 +127,22 @@ fn push_block(
     outcomes: &[Outcome],
     hash: &[u8; 32],
 ) -> Result<(), AllocError> {
-    let number = block.number;
-    text.push_str(format!(in alloc; "block {number} ")?.as_str())?;
+    push_number(alloc, text, "block ", block.number)?;
+    text.push_str(" ")?;
     push_hash(alloc, text, hash)?;
     text.push_str("\n")?;
     if let Some(config) = &block.config {
         push_config(alloc, text, config)?;
     }
-    for (i, outcome) in outcomes.iter().enumerate() {
-        let number = i + 1;
-        text.push_str(format!(in alloc; "txn {number} ")?.as_str())?;
-        push_outcome(alloc, text, outcome)?;
-        text.push_str("\n")?;
-    }
-    Ok(())
+    push_outcomes(alloc, text, outcomes)
 }
 
 fn push_halted(alloc: Global, text: &mut String, split: &Split) -> Result<(), AllocError> {
-    let number = split.n;
-    let place = u32::from(split.t) + 1;
-    let records = split.writes.as_slice();
-    text.push_str(format!(in alloc; "halted {number} {place} writes {records:?} ran ")?.as_str())?;
+    push_number(alloc, text, "halted ", split.n)?;
+    push_number(alloc, text, " ", u64::from(split.t) + 1)?;
+    text.push_str(" writes ")?;
+    push_shown(alloc, text, &split.writes.as_slice())?;
+    text.push_str(" ran ")?;
     push_outcome(alloc, text, &split.ran)?;
     text.push_str(" voted ")?;
     push_outcome(alloc, text, &split.voted)?;
@@ -127,15 +152,16 @@ fn push_halted(alloc: Global, text: &mut String, split: &Split) -> Result<(), Al
 /// What a peer holds.
 pub fn push_peer(alloc: Global, text: &mut String, me: u8, peer: &Peer) -> Result<(), AllocError> {
     let ledger = peer.ledger();
-    let name = u32::from(me) + 1;
-    let count = ledger.len();
-    text.push_str(format!(in alloc; "peer p{name} completed {count}\n")?.as_str())?;
+    push_number(alloc, text, "peer p", u64::from(me) + 1)?;
+    push_number(alloc, text, " completed ", ledger.len())?;
+    text.push_str("\n")?;
     for i in 0..ledger.len() {
         let outcomes = ledger.outcomes(i).as_slice();
         push_block(alloc, text, ledger.block(i), outcomes, &ledger.hash(i))?;
     }
-    let values = peer.state().as_slice();
-    text.push_str(format!(in alloc; "state {values:?}\n")?.as_str())?;
+    text.push_str("state ")?;
+    push_shown(alloc, text, &peer.state().as_slice())?;
+    text.push_str("\n")?;
     match peer.halted() {
         Some(split) => push_halted(alloc, text, split),
         None => Ok(()),
