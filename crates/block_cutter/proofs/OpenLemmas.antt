@@ -10,8 +10,8 @@ use Rattle.txn_types.specs.declared.block.Config.{Config}
 use Rattle.txn_types.specs.declared.stream.CutLimits.{CutLimits}
 use Rattle.txn_types.specs.declared.stream.Piece.{Piece}
 use Rattle.txn_types.specs.declared.stream.Piece.TheVariants as piece
-use Rattle.oxii_defs.specs.Table.{Table, IsLawfulTxn}
-use Rattle.oxii_defs.specs.Lawful.{IsLawfulBody}
+use Rattle.oxii_defs.specs.Table.{Table}
+use Rattle.oxii_defs.specs.Lawful.{IsLawfulTxn, IsLawfulBody}
 use Rattle.oxii_defs.specs.BlockBytes.{txn_bytes}
 use Rattle.node_defs.specs.Cutting.{AdmittedItem, txns_in, txns_in_piece, bytes_in, config_in, carried_body, IsCall, IsAlone, HasNoMark, IsPart, last_marked}
 use Rattle.block_cutter.specs.Standing.{block_of, IsOpen}

@@ -9,10 +9,11 @@ use Rattle.txn_types.specs.declared.block.Body.{Body}
 use Rattle.txn_types.specs.declared.block.Config.{Config}
 use Rattle.txn_types.specs.declared.stream.CutLimits.{CutLimits}
 use Rattle.txn_types.specs.declared.stream.Piece.TheVariants as piece
-use Rattle.oxii_defs.specs.Table.{Table, IsLawfulTxn}
-use Rattle.oxii_defs.specs.Lawful.{IsLawfulBody, IsLawfulConfig}
+use Rattle.oxii_defs.specs.Table.{Table}
+use Rattle.oxii_defs.specs.Lawful.{IsLawfulTxn, IsLawfulBody, IsLawfulConfig}
 use Rattle.oxii_defs.specs.BlockBytes.{txn_bytes}
-use Rattle.node_defs.specs.Cutting.{AdmittedItem, AreLawfulLimits, carried_body, EndsBefore, EndRightly, IsPart, IsCutting}
+use Rattle.node_defs.specs.Cutting.{AdmittedItem, carried_body, EndsBefore, EndRightly, IsPart, IsCutting}
+use Rattle.node_defs.specs.LawfulItems.{AreLawfulLimits}
 use Rattle.block_cutter.specs.Standing.{block_of, AreClosed, IsOpen, Stands}
 use Rattle.block_cutter.proofs.OpenLemmas.{all_push, last_push, unmarked_push, call, txns_push, bytes_push, count, open_part, open_block, block_lawful}
 

@@ -5,8 +5,8 @@ use Rattle.txn_types.specs.declared.txn.Txn.{Txn}
 use Rattle.txn_types.specs.declared.block.Body.{Body}
 use Rattle.txn_types.specs.declared.stream.CutLimits.{CutLimits}
 use Rattle.txn_types.specs.declared.stream.Item.{Item}
-use Rattle.oxii_defs.specs.Table.{Table, IsLawfulTxn}
-use Rattle.oxii_defs.specs.Lawful.{IsLawfulBody}
+use Rattle.oxii_defs.specs.Table.{Table}
+use Rattle.oxii_defs.specs.Lawful.{IsLawfulTxn, IsLawfulBody}
 use Rattle.node_defs.specs.Cutting.{AdmittedItem, admitted, mark_comes, txns_in, bytes_in, IsCall, HasNoMark, IsPart, EndRightly, carried_body, last_marked}
 
 -- the block of these transactions, where there are any

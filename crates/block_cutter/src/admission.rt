@@ -2,10 +2,10 @@
 
 ghost use Rattle.std.specs.Prelude.{◌≡◌, ◌≤◌, ◌+◌, length, map, option_map, IfOk};
 ghost use Rattle.std.specs.List.{list_any};
-ghost use Rattle.oxii_defs.specs.Table.{IsLawfulTxn};
-ghost use Rattle.oxii_defs.specs.Lawful.{IsLawfulTable};
+ghost use Rattle.oxii_defs.specs.Lawful.{IsLawfulTxn, IsLawfulTable};
 ghost use Rattle.txn_types.specs.Rising.{IsRising};
-ghost use Rattle.node_defs.specs.Admission.{same_name, first_named, is_kind, are_kinds, with_sets, with_args, admit, IsLawfulRequest};
+ghost use Rattle.node_defs.specs.Admission.{same_name, first_named, is_kind, are_kinds, with_sets, with_args, admit};
+ghost use Rattle.node_defs.specs.LawfulItems.{IsLawfulRequest};
 ghost use Rattle.txn_core.specs.Meant.{op_of, kind_of, formal_of};
 ghost use Rattle.txn_core.specs.MeantTable.{app_of, table_of};
 

@@ -1,8 +1,8 @@
 //! The blocks that were cut so far, and the one that is open.
 
 ghost use Rattle.std.specs.Prelude.{◌≡◌, ◌≤◌, ◌<◌, ◌++◌, ◌∷◌, [], length, Some, OnOk, IfOk};
-ghost use Rattle.oxii_defs.specs.Table.{IsLawfulTxn};
-ghost use Rattle.node_defs.specs.Cutting.{AreLawfulLimits};
+ghost use Rattle.oxii_defs.specs.Lawful.{IsLawfulTxn};
+ghost use Rattle.node_defs.specs.LawfulItems.{AreLawfulLimits};
 ghost use Rattle.txn_core.specs.MeantTable.{table_of};
 ghost use Rattle.block_cutter.specs.Standing.{block_of};
 ghost use Rattle.txn_types.specs.declared.stream.Piece.{Piece};

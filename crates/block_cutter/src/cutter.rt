@@ -2,8 +2,8 @@
 
 ghost use Rattle.std.specs.Prelude.{◌≡◌, ◌<◌, ◌++◌, ◌∷◌, [], length, OnOk, IfOk};
 ghost use Rattle.oxii_defs.specs.Lawful.{IsLawfulTable};
-ghost use Rattle.node_defs.specs.Admission.{admit, piece_of, piece_of_answer, reject_of, reject_of_answer, IsLawfulRequest, IsLawfulItem};
-ghost use Rattle.node_defs.specs.Cutting.{AreLawfulLimits};
+ghost use Rattle.node_defs.specs.Admission.{admit, piece_of, piece_of_answer, reject_of, reject_of_answer};
+ghost use Rattle.node_defs.specs.LawfulItems.{IsLawfulRequest, IsLawfulItem, AreLawfulLimits};
 ghost use Rattle.txn_types.specs.declared.stream.Item.{Item};
 ghost use Rattle.txn_core.specs.MeantTable.{table_of};
 ghost use Rattle.block_cutter.specs.Standing.{block_of};

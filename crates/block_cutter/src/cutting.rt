@@ -3,8 +3,9 @@
 ghost use Rattle.std.specs.Prelude.{◌≡◌, ◌≤◌, length, IfOk};
 ghost use Rattle.std.specs.List.{All};
 ghost use Rattle.oxii_defs.specs.Lawful.{IsLawfulTable, IsLawfulBody};
-ghost use Rattle.node_defs.specs.Admission.{pieces_of, IsLawfulItem};
-ghost use Rattle.node_defs.specs.Cutting.{AreAgreed, AreLawfulLimits, rejected_from};
+ghost use Rattle.node_defs.specs.Admission.{pieces_of};
+ghost use Rattle.node_defs.specs.LawfulItems.{IsLawfulItem, AreLawfulLimits};
+ghost use Rattle.node_defs.specs.Cutting.{AreAgreed, rejected_from};
 ghost use Rattle.txn_core.specs.MeantTable.{table_of};
 
 use crate::cutter::{Cut, Cutter};

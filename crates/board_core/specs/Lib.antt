@@ -1,3 +1,4 @@
+-- The definitions of this crate.
 pub mod Counts
 pub mod Words
 pub mod Script

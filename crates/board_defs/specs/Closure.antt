@@ -6,8 +6,8 @@ use Rattle.txn_types.specs.declared.txn.Kind.{Kind}
 use Rattle.txn_types.specs.declared.txn.Outcome.{Outcome}
 use Rattle.txn_types.specs.declared.txn.Txn.{Txn}
 use Rattle.oxii_defs.specs.State.{State, IsState}
-use Rattle.oxii_defs.specs.Table.{Table, IsLawfulTxn}
-use Rattle.oxii_defs.specs.Lawful.{IsLawfulTable}
+use Rattle.oxii_defs.specs.Table.{Table}
+use Rattle.oxii_defs.specs.Lawful.{IsLawfulTxn, IsLawfulTable}
 use Rattle.oxii_defs.specs.Outcomes.{outcome_in}
 use Rattle.known_defs.specs.Known.{txn_at, after_known, knows_all}
 use Rattle.board_defs.specs.Trace.{Span, IsLawfulTrace}

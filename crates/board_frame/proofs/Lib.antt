@@ -1,3 +1,4 @@
+-- The lemmas of this crate.
 pub mod FrameFacts
 pub mod Closed
 pub mod Firsts

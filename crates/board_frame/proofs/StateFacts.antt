@@ -10,7 +10,7 @@ use Rattle.board_core.specs.Passes.{IsHeld, Ends}
 use Rattle.board_core.proofs.Totals.{hit_same, hit_else, times_first-append}
 use Rattle.std.proofs.Common.{map}
 use Rattle.std.proofs.lemmas.List.{map-append}
-use Rattle.board_work.specs.Plans.{span_of}
+use Rattle.board_work.specs.Spans.{span_of}
 use Rattle.board_work.specs.declared.plan.Span as declared
 use Rattle.script_laws.specs.Placed.{span_of_run}
 use Rattle.board_frame.specs.Seen.{open_of, state_of_view}

@@ -283,7 +283,7 @@ impl Frame {
 impl Frame {
     ghost use Rattle.std.specs.Prelude.{map};
     ghost use Rattle.board_core.specs.Passes.{IsComplete};
-    ghost use Rattle.board_work.specs.Plans.{span_of};
+    ghost use Rattle.board_work.specs.Spans.{span_of};
     ghost use Rattle.script_laws.specs.Laws.{IsLawfulClose};
     ghost use Rattle.board_frame.specs.Frames.{IsPassOf};
 
@@ -333,7 +333,8 @@ impl Frame {
 // The calls, in the words of what workers run.
 impl Frame {
     ghost use Rattle.std.specs.Prelude.{map};
-    ghost use Rattle.board_work.specs.Plans.{plan_of, span_of, IsRunnable};
+    ghost use Rattle.board_work.specs.Plans.{plan_of, IsRunnable};
+    ghost use Rattle.board_work.specs.Spans.{span_of};
     ghost use Rattle.board_work.specs.PassStates.{IsOf, IsFree, IsHolding, IsComplete, HasTried, IsFirst, new_state, split_state, Took, Ended, IsLeastUntried, joined_state, IsTraceOf};
     ghost use Rattle.board_frame.specs.Seen.{pass_state};
     ghost use Rattle.board_frame.specs.Frames.{frame_home, IsFrameClosed};

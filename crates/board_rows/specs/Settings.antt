@@ -2,7 +2,7 @@
 use Rattle.std.specs.Prelude.{◌≡◌, ◌<◌, ℕ, Bool, true, List, length, Option}
 use Rattle.txn_types.specs.declared.block.Block.{Block}
 use Rattle.txn_types.specs.declared.txn.Outcome.{Outcome}
-use Rattle.oxii_defs.specs.Chain.{IsLawfulBlock}
+use Rattle.oxii_defs.specs.Lawful.{IsLawfulBlock}
 use Rattle.board_defs.specs.Closure as meant
 use Rattle.txn_core.specs.declared.table.Table.{Table}
 use Rattle.txn_core.specs.declared.graph.Graph.{Graph}

@@ -3,7 +3,7 @@ use Rattle.std.proofs.Common.{◌≡◌, ℕ, suc, ◌+◌, ◌<◌, ◌≤◌, 
 use Rattle.std.specs.Prelude.{MatchOption}
 use Rattle.std.proofs.lemmas.List.{map-append, take_more_set, length-append}
 use Rattle.board_work.specs.declared.plan.Span.{Span}
-use Rattle.board_work.specs.Plans.{span_of}
+use Rattle.board_work.specs.Spans.{span_of}
 use Rattle.script_laws.specs.Placed.{placed, with_run}
 use Rattle.board_words.specs.Runs.{Fills, run_of, run_at}
 

@@ -1,3 +1,4 @@
+-- The lemmas of this crate.
 pub mod Opens
 pub mod Filling
 pub mod Decode

@@ -1,6 +1,6 @@
 //! The trace: the runs by place, gathered in order of position without memory.
 ghost use Rattle.std.specs.Prelude.{◌≡◌, ◌≤◌, ◌<◌, ℕ, length, map, take};
-ghost use Rattle.board_work.specs.Plans.{span_of};
+ghost use Rattle.board_work.specs.Spans.{span_of};
 ghost use Rattle.script_laws.specs.Placed.{placed};
 ghost use Rattle.board_words.specs.Runs.{Fills, run_at};
 

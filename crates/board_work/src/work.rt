@@ -6,7 +6,8 @@ ghost use Rattle.txn_types.specs.Values.{max_value};
 ghost use Rattle.oxii_defs.specs.State.{value_in};
 ghost use Rattle.board_defs.specs.Closure as meant;
 ghost use Rattle.board_defs.specs.Trace as trace;
-ghost use Rattle.board_work.specs.Plans.{plan_of, span_of, IsRunnable};
+ghost use Rattle.board_work.specs.Plans.{plan_of, IsRunnable};
+ghost use Rattle.board_work.specs.Spans.{span_of};
 ghost use Rattle.board_work.specs.Scripts.{reads_at, state_before, meant_at};
 ghost use Rattle.board_work.specs.PassStates.{Home, PassState, IsOf, IsFree, IsHolding, IsComplete, HasTried, IsFirst, new_state, split_state, Took, Ended, IsLeastUntried, joined_state, IsTraceOf};
 

@@ -5,8 +5,7 @@ use Rattle.std.proofs.lemmas.Bool.{false≢true, cases_lt}
 use Rattle.std.proofs.lemmas.List.{get_or_past}
 use Rattle.txn_types.specs.declared.txn.Outcome.{Outcome}
 use Rattle.txn_types.specs.Values.{AreValues}
-use Rattle.oxii_defs.specs.Lawful.{IsLawfulTable}
-use Rattle.oxii_defs.specs.Chain.{IsLawfulBlock}
+use Rattle.oxii_defs.specs.Lawful.{IsLawfulTable, IsLawfulBlock}
 use Rattle.oxii_defs.specs.Dependency.{graph_of}
 use Rattle.known_defs.specs.Known.{txn_at, knows_all}
 use Rattle.txn_core.specs.MeantTable.{table_of}

@@ -1,3 +1,4 @@
+-- The lemmas of this crate.
 pub mod Lexing
 pub mod TokensMeant
 pub mod Expressions

@@ -1,7 +1,8 @@
 -- A contract's canonical text is that of the tree of any text of it.
 use Rattle.std.proofs.Common.{◌≡◌, ℕ, ◌≤◌, List, [], map, length, Result, Ok, Err, IfOk, ap, ◌∙◌, arith}
 use Rattle.oxii_defs.specs.Syntax.{Op}
-use Rattle.contract_text.specs.TextMeaning.{IsContract, AreOneContract}
+use Rattle.contract_text.specs.TextMeaning.{IsContract}
+use Rattle.contract_text.specs.TextFaults.{AreOneContract}
 use Rattle.contract_text.proofs.Judged.{one_contract}
 use Rattle.contract_printer.specs.Plain.{plain_op}
 use Rattle.contract_printer.specs.Printed.{printed_ops}

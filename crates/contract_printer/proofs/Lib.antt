@@ -1,3 +1,4 @@
+-- The lemmas of this crate.
 pub mod Forms
 pub mod SpacedTexts
 pub mod Blocks

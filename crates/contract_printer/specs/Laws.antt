@@ -3,7 +3,8 @@ use Rattle.std.specs.Prelude.{◌≡◌, ℕ, ◌≤◌, List, length, map}
 use Rattle.contract_grammar.specs.declared.token.Placed.{Placed}
 use Rattle.contract_grammar.specs.Lexer.{tokens}
 use Rattle.oxii_defs.specs.Syntax.{Op}
-use Rattle.contract_text.specs.TextMeaning.{IsContract, AreOneContract}
+use Rattle.contract_text.specs.TextMeaning.{IsContract}
+use Rattle.contract_text.specs.TextFaults.{AreOneContract}
 use Rattle.contract_printer.specs.Plain.{plain_op}
 use Rattle.contract_printer.specs.Printed.{printed_ops}
 use Rattle.contract_printer.specs.Canonical.{canonical}

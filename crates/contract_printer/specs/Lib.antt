@@ -1,3 +1,4 @@
+-- The definitions of this crate, with those of lower crates that its clauses cite.
 pub use Rattle.oxii_defs.specs.Syntax
 pub use Rattle.txn_core.specs.Meant
 pub use Rattle.contract_grammar.specs.Tree

@@ -3,7 +3,7 @@ use Rattle.std.proofs.Common.{◌≡◌, ℕ, List, length, Result, Ok, Err, IfO
 use Rattle.contract_reader.specs.declared.fault.ReadFault.{ReadFault}
 use Rattle.contract_reader.specs.declared.fault.ReadFault.TheVariants as fault
 use Rattle.contract_grammar.specs.declared.tree.Operation.{Operation}
-use Rattle.contract_grammar.specs.Tree.{operations}
+use Rattle.contract_grammar.specs.Held.{operations}
 use Rattle.contract_grammar.specs.Lexer.{tokens}
 use Rattle.contract_grammar.specs.Grammar.{SpellsContract}
 use Rattle.contract_grammar.specs.Limits.{IsWithinLimits}

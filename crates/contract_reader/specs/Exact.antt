@@ -3,7 +3,7 @@ use Rattle.std.specs.Prelude.{◌≡◌, ℕ, List, length, Result, Ok, Err}
 use Rattle.contract_reader.specs.declared.fault.ReadFault.{ReadFault}
 use Rattle.contract_reader.specs.declared.fault.ReadFault.TheVariants as fault
 use Rattle.contract_grammar.specs.declared.tree.Operation.{Operation}
-use Rattle.contract_grammar.specs.Tree.{operations}
+use Rattle.contract_grammar.specs.Held.{operations}
 use Rattle.contract_grammar.specs.Lexer.{tokens}
 use Rattle.contract_grammar.specs.Faults.{IsSyntaxFault, IsLimitFault}
 use Rattle.contract_grammar.specs.Reading.{Reading, reads, syntax_at, limit_at}

@@ -1,4 +1,6 @@
+-- The definitions of this crate, with those of lower crates that its clauses cite.
 pub use Rattle.contract_grammar.specs.Tree
+pub use Rattle.contract_grammar.specs.Held
 pub use Rattle.contract_grammar.specs.Lexer
 pub use Rattle.contract_grammar.specs.Grammar
 pub use Rattle.contract_grammar.specs.Limits

@@ -14,7 +14,7 @@ use Rattle.contract_reader.specs.declared.state.Nest.{Nest}
 use Rattle.contract_reader.specs.declared.state.Refusal.{Refusal}
 use Rattle.contract_reader.specs.declared.state.Refusal.TheVariants as refusal
 use Rattle.contract_grammar.specs.declared.tree.Expr.{Expr}
-use Rattle.contract_grammar.specs.Tree.{tree, statements, operations}
+use Rattle.contract_grammar.specs.Held.{tree, statements, operations}
 use Rattle.contract_grammar.specs.Expressions as expressions
 use Rattle.contract_grammar.specs.Modes as modes
 

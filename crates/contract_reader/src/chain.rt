@@ -1,7 +1,7 @@
 //! Chains of operators: whether the 33rd of one was read.
 
 ghost use Rattle.std.specs.Prelude.{◌≡◌, nat_le};
-ghost use Rattle.contract_grammar.specs.Tree.{tree};
+ghost use Rattle.contract_grammar.specs.Held.{tree};
 ghost use Rattle.contract_grammar.specs.Limits.{chain_length, is_chain};
 ghost use Rattle.contract_grammar.specs.Reading.{is_chain_end, ends_chain};
 ghost use Rattle.contract_reader.specs.Views.{mode_of, partial_of};

@@ -1,7 +1,8 @@
 //! How the next token goes on with an expression.
 
 ghost use Rattle.std.specs.Prelude.{◌≡◌, ◌≤◌, IfOk, option_map};
-ghost use Rattle.contract_grammar.specs.Tree.{tree, first, begun_at};
+ghost use Rattle.contract_grammar.specs.Tree.{first, begun_at};
+ghost use Rattle.contract_grammar.specs.Held.{tree};
 ghost use Rattle.contract_grammar.specs.Grammar.{level, left_level};
 ghost use Rattle.contract_grammar.specs.Expressions.{folded, fits, have, pushed, left, negate, on_want, on_have, taken, ended};
 ghost use Rattle.contract_reader.specs.Views.{stack, partial_of, Steps};

@@ -1,7 +1,7 @@
 //! How the next token goes on with the head of an operation.
 
 ghost use Rattle.std.specs.Prelude.{◌≡◌, IfOk};
-ghost use Rattle.contract_grammar.specs.Tree.{operations};
+ghost use Rattle.contract_grammar.specs.Held.{operations};
 ghost use Rattle.contract_grammar.specs.Grammar.{parameter};
 ghost use Rattle.contract_grammar.specs.Modes.{on_op, on_op_name, on_open, on_first, on_param, on_colon, on_kind, on_more, with_param};
 ghost use Rattle.contract_reader.specs.Views.{blocks_of, Goes};

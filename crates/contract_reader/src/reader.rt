@@ -1,7 +1,7 @@
 //! The reading of a contract's text, token by token.
 
 ghost use Rattle.std.specs.Prelude.{◌≡◌, ◌≤◌, IfErr, IfOk, length};
-ghost use Rattle.contract_grammar.specs.Tree.{operations};
+ghost use Rattle.contract_grammar.specs.Held.{operations};
 ghost use Rattle.contract_grammar.specs.Lexer.{tokens};
 ghost use Rattle.contract_grammar.specs.Grammar.{SpellsContract};
 ghost use Rattle.contract_grammar.specs.Modes.{advance, at_end};

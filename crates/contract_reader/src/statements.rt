@@ -1,7 +1,8 @@
 //! How the next token goes on with a statement.
 
 ghost use Rattle.std.specs.Prelude.{◌≡◌, [], ◌∷◌, Some, OnOk, option_map};
-ghost use Rattle.contract_grammar.specs.Tree.{tree, nil, statement, statements, operations};
+ghost use Rattle.contract_grammar.specs.Tree.{nil};
+ghost use Rattle.contract_grammar.specs.Held.{tree, statement, statements, operations};
 ghost use Rattle.contract_grammar.specs.Expressions.{want};
 ghost use Rattle.contract_grammar.specs.Modes.{at, at_stmt, in_expr, unclosed, with_stmt, closed, on_block, on_stmt, on_let, on_equals, on_count, on_semicolon, on_brace, on_expr, on_else};
 ghost use Rattle.contract_reader.specs.Views.{blocks_of, mode_of, use_of, purpose_of, partial_of, Goes};

@@ -8,8 +8,8 @@ use Rattle.contract_grammar.specs.declared.tree.Param.{Param}
 use Rattle.contract_grammar.specs.Tree as raw
 use Rattle.contract_grammar.specs.Tree.{Tree, number, name, negation, binary, Statement, define, assign, demand, choose, again, Statements, nil, then_one}
 use Rattle.oxii_defs.specs.Syntax as meant
-use Rattle.oxii_defs.specs.WellFormed.{Scope, IsFineExpr, IsFineCond, IsFine, AllFine, AllDiffer, scope_after, IsWellFormed}
-use Rattle.txn_core.specs.Checked.{is_named}
+use Rattle.oxii_defs.specs.WellFormed.{Scope, IsFineExpr, IsFineCond, IsFine, AllFine, scope_after, IsWellFormed}
+use Rattle.oxii_defs.specs.NameLists.{AllDiffer, is_named}
 use Rattle.contract_text.specs.declared.flaws.ValueKind.TheVariants as value
 use Rattle.contract_text.specs.declared.flaws.Flaw.{Flaw}
 use Rattle.contract_text.specs.declared.symbols.Symbol.{Symbol}

@@ -4,7 +4,8 @@ use Rattle.std.specs.List.{All}
 use Rattle.std.proofs.lemmas.List.{length-map}
 use Rattle.contract_grammar.specs.declared.tree.Operation.{Operation}
 use Rattle.contract_grammar.specs.Tree as raw
-use Rattle.contract_grammar.specs.Tree.{Statement, define, assign, demand, choose, again, Statements, nil, then_one, operation, operations}
+use Rattle.contract_grammar.specs.Tree.{Statement, define, assign, demand, choose, again, Statements, nil, then_one}
+use Rattle.contract_grammar.specs.Held.{operation, operations}
 use Rattle.contract_grammar.specs.Lexer.{tokens}
 use Rattle.contract_grammar.specs.Grammar.{SpellsContract}
 use Rattle.contract_grammar.specs.Limits.{IsWithinLimits}
@@ -12,7 +13,8 @@ use Rattle.contract_grammar.specs.Reading.{Reading, reads, syntax_at, limit_at, 
 use Rattle.contract_grammar.proofs.Meaning.{reading_means}
 use Rattle.contract_grammar.proofs.Determined.{reading_is}
 use Rattle.oxii_defs.specs.Syntax.{Op}
-use Rattle.oxii_defs.specs.WellFormed.{IsWellFormed, AllDiffer}
+use Rattle.oxii_defs.specs.WellFormed.{IsWellFormed}
+use Rattle.oxii_defs.specs.NameLists.{AllDiffer}
 use Rattle.txn_core.specs.Meant.{op_of}
 use Rattle.contract_text.specs.declared.flaws.Flaw.{Flaw}
 use Rattle.contract_text.specs.declared.faults.Contract.{Contract}
@@ -21,8 +23,9 @@ use Rattle.contract_text.specs.declared.faults.TextFault.TheVariants as fault
 use Rattle.contract_text.specs.Symbols.{made}
 use Rattle.contract_text.specs.Flaws.{noted, flaws, first_flaw}
 use Rattle.contract_text.specs.Room.{IsBounded, AllBounded, IsBoundedOp, HasRoom, AllHaveRoom, HasRoomInOp}
-use Rattle.contract_text.specs.TextMeaning.{IsContract, HasTextFault}
-use Rattle.contract_text.specs.Verdict.{Verdict, accepted, flawed, syntax_fault, limit_fault, judged, told, verdict, Tells, GivesVerdict}
+use Rattle.contract_text.specs.TextMeaning.{IsContract}
+use Rattle.contract_text.specs.TextFaults.{HasTextFault, Verdict, accepted, flawed, syntax_fault, limit_fault, Tells}
+use Rattle.contract_text.specs.Verdict.{judged, told, verdict, GivesVerdict}
 use Rattle.contract_text.proofs.First.{first_noted, noted_first}
 use Rattle.contract_text.proofs.Bounds.{operations_bounded}
 use Rattle.contract_text.proofs.Fine.{AreFine, accepted_fine, no_flaws, all_first, all_rest, all_more}

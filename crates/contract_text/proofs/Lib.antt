@@ -1,3 +1,4 @@
+-- The lemmas of this crate.
 pub mod Noted
 pub mod Forms
 pub mod Quiet

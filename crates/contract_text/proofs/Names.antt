@@ -8,8 +8,9 @@ use Rattle.contract_grammar.specs.declared.tree.ParamKind.{ParamKind}
 use Rattle.contract_grammar.specs.declared.tree.ParamKind.TheVariants as kind
 use Rattle.contract_grammar.specs.declared.tree.Param.{Param}
 use Rattle.oxii_defs.specs.Syntax as meant
-use Rattle.oxii_defs.specs.WellFormed.{HasKind, AllDiffer}
-use Rattle.txn_core.specs.Checked.{is_named, all_differ}
+use Rattle.oxii_defs.specs.WellFormed.{HasKind}
+use Rattle.oxii_defs.specs.NameLists.{AllDiffer, is_named}
+use Rattle.txn_core.specs.Checked.{all_differ}
 use Rattle.txn_core.proofs.CheckLemmas.{differ_decides}
 use Rattle.contract_text.specs.declared.symbols.Symbol.{Symbol}
 use Rattle.contract_text.specs.declared.symbols.Symbol.TheVariants as symbol

@@ -5,7 +5,7 @@ use Rattle.contract_grammar.specs.declared.token.Operator.{Operator}
 use Rattle.contract_grammar.specs.declared.token.Operator.TheVariants.{Or, And, Plus, Minus, Times, Divide, Remainder}
 use Rattle.contract_grammar.specs.declared.tree.Param.{Param}
 use Rattle.contract_grammar.specs.Tree.{Tree, number, name, negation, binary, Statement, define, assign, demand, choose, again, Statements, nil, then_one, Op}
-use Rattle.txn_core.specs.Checked.{is_named}
+use Rattle.oxii_defs.specs.NameLists.{is_named}
 use Rattle.contract_text.specs.declared.flaws.ValueKind.{ValueKind}
 use Rattle.contract_text.specs.declared.flaws.ValueKind.TheVariants as value
 use Rattle.contract_text.specs.declared.flaws.FlawKind.{FlawKind}

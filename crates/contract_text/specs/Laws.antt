@@ -7,11 +7,13 @@ use Rattle.contract_grammar.specs.Grammar.{SpellsContract}
 use Rattle.contract_grammar.specs.Limits.{IsWithinLimits}
 use Rattle.txn_types.specs.Names.{IsName}
 use Rattle.oxii_defs.specs.Syntax.{Op}
-use Rattle.oxii_defs.specs.WellFormed.{AllDiffer, IsWellFormed}
+use Rattle.oxii_defs.specs.WellFormed.{IsWellFormed}
+use Rattle.oxii_defs.specs.NameLists.{AllDiffer}
 use Rattle.oxii_defs.specs.Lawful.{IsUpTo}
 use Rattle.contract_text.specs.Room.{AreBounded}
 use Rattle.contract_text.specs.TextMeaning.{IsContract}
-use Rattle.contract_text.specs.Verdict.{Verdict, verdict, Tells}
+use Rattle.contract_text.specs.TextFaults.{Verdict, Tells}
+use Rattle.contract_text.specs.Verdict.{verdict}
 
 -- the limits of the tokens are limits of the operations
 abbrev pub LimitsBoundOperations : Type 0

@@ -1,4 +1,6 @@
+-- The definitions of this crate, with those of lower crates that its clauses cite.
 pub use Rattle.contract_grammar.specs.Tree
+pub use Rattle.contract_grammar.specs.Held
 pub use Rattle.contract_grammar.specs.Lexer
 pub use Rattle.contract_grammar.specs.Grammar
 pub use Rattle.contract_grammar.specs.Limits
@@ -7,11 +9,13 @@ pub use Rattle.contract_grammar.specs.Reading
 pub use Rattle.txn_core.specs.Meant
 pub use Rattle.oxii_defs.specs.Syntax
 pub use Rattle.oxii_defs.specs.WellFormed
+pub use Rattle.oxii_defs.specs.NameLists
 pub use Rattle.oxii_defs.specs.Lawful
 pub mod Symbols
 pub mod Flaws
 pub mod Typed
 pub mod Room
 pub mod TextMeaning
+pub mod TextFaults
 pub mod Verdict
 pub mod Laws

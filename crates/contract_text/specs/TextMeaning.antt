@@ -1,16 +1,11 @@
--- What a contract's text is, and what its first fault is: by the grammar, the limits and the flaws alone.
-use Rattle.std.specs.Prelude.{◌≡◌, ◌↔◌, ℕ, List, [], length, map}
+-- What a contract's text is: by the grammar, the limits and the flaws alone.
+use Rattle.std.specs.Prelude.{◌≡◌, ℕ, List, [], map}
+use Rattle.oxii_defs.specs.Syntax.{Op}
 use Rattle.contract_grammar.specs.Tree as raw
 use Rattle.contract_grammar.specs.Lexer.{tokens}
 use Rattle.contract_grammar.specs.Grammar.{SpellsContract}
 use Rattle.contract_grammar.specs.Limits.{IsWithinLimits}
-use Rattle.contract_grammar.specs.Faults.{IsSyntaxFault, IsLimitFault}
-use Rattle.oxii_defs.specs.Syntax.{Op}
-use Rattle.contract_text.specs.declared.flaws.FlawKind.TheVariants as kind
-use Rattle.contract_text.specs.declared.flaws.Flaw.{Flaw}
-use Rattle.contract_text.specs.declared.faults.TextFault.{TextFault}
-use Rattle.contract_text.specs.declared.faults.TextFault.TheVariants as fault
-use Rattle.contract_text.specs.Flaws.{flaw, IsFirst, flaws}
+use Rattle.contract_text.specs.Flaws.{flaws}
 use Rattle.contract_text.specs.Typed.{typed_op}
 
 -- the text spells operations within the limits that have no flaw and stand for these
@@ -20,23 +15,3 @@ pub record IsContract (text : List ℕ) (typed : List Op) : Type 0 where
   pub within : IsWithinLimits (tokens text)
   pub flawless : flaws operations ≡ []
   pub stands : typed ≡ map typed_op operations
-
--- the text spells operations within the limits, and this is the first of their flaws
-pub record HasFlaw (text : List ℕ) (f : Flaw) : Type 0 where
-  pub operations : List raw.Op
-  pub spelled : SpellsContract (tokens text) operations
-  pub within : IsWithinLimits (tokens text)
-  pub first : IsFirst f (flaws operations)
-
--- the fault of a text that comes first
-abbrev pub HasTextFault : List ℕ → TextFault → Type 0
-HasTextFault text (fault.Syntax at) = IsSyntaxFault (tokens text) (length text) at
-HasTextFault text (fault.UnknownName at) = HasFlaw text (flaw at kind.UnknownName)
-HasTextFault text (fault.Kind at) = HasFlaw text (flaw at kind.Kind)
-HasTextFault text (fault.Limit at) = IsLimitFault (tokens text) at
-HasTextFault text (fault.Double at) = HasFlaw text (flaw at kind.Double)
-HasTextFault text fault.OutOfMemory = Unit {0}
-
--- two texts stand for the same operations
-abbrev pub AreOneContract : List ℕ → List ℕ → Type 0
-AreOneContract text other = (ops : List Op) → IsContract text ops ↔ IsContract other ops

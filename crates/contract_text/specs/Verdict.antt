@@ -1,11 +1,9 @@
 -- What a text comes to, as a total function of its bytes.
-use Rattle.std.specs.Prelude.{◌≡◌, ℕ, List, length, map, Option, Some, None, Result, Ok, Err}
-use Rattle.contract_grammar.specs.Tree as raw
-use Rattle.contract_grammar.specs.Lexer.{tokens}
-use Rattle.contract_grammar.specs.Faults.{IsSyntaxFault, IsLimitFault}
-use Rattle.contract_grammar.specs.Reading.{Reading, reads, syntax_at, limit_at, reading}
+use Rattle.std.specs.Prelude.{◌≡◌, ℕ, List, map, Option, Some, None, Result, Ok, Err}
 use Rattle.oxii_defs.specs.Syntax.{Op}
 use Rattle.txn_core.specs.Meant.{op_of}
+use Rattle.contract_grammar.specs.Tree as raw
+use Rattle.contract_grammar.specs.Reading.{Reading, reads, syntax_at, limit_at, reading}
 use Rattle.contract_text.specs.declared.flaws.FlawKind.TheVariants as kind
 use Rattle.contract_text.specs.declared.flaws.Flaw.{Flaw}
 use Rattle.contract_text.specs.declared.faults.Contract.{Contract}
@@ -13,14 +11,7 @@ use Rattle.contract_text.specs.declared.faults.TextFault.{TextFault}
 use Rattle.contract_text.specs.declared.faults.TextFault.TheVariants as fault
 use Rattle.contract_text.specs.Flaws.{flaw, first_flaw}
 use Rattle.contract_text.specs.Typed.{typed_op}
-use Rattle.contract_text.specs.TextMeaning.{IsContract, HasFlaw}
-
--- the operations, or the first fault
-pub data Verdict : Type 0 where
-  accepted : List Op → Verdict
-  syntax_fault : ℕ → Verdict
-  limit_fault : ℕ → Verdict
-  flawed : Flaw → Verdict
+use Rattle.contract_text.specs.TextFaults.{Verdict, accepted, syntax_fault, limit_fault, flawed}
 
 -- the second pass, where the first one finds nothing
 abbrev pub judged : Option Flaw → List raw.Op → Verdict
@@ -45,10 +36,3 @@ GivesVerdict (Err (fault.Kind at)) v = v ≡ flawed (flaw at kind.Kind)
 GivesVerdict (Err (fault.Limit at)) v = v ≡ limit_fault at
 GivesVerdict (Err (fault.Double at)) v = v ≡ flawed (flaw at kind.Double)
 GivesVerdict (Err fault.OutOfMemory) v = Unit {0}
-
--- what a verdict says of a text: the grammar, the limits and the flaws alone decide whether it is so
-abbrev pub Tells : List ℕ → Verdict → Type 0
-Tells text (accepted ops) = IsContract text ops
-Tells text (syntax_fault at) = IsSyntaxFault (tokens text) (length text) at
-Tells text (limit_fault at) = IsLimitFault (tokens text) at
-Tells text (flawed f) = HasFlaw text f

@@ -1,7 +1,7 @@
 //! Expressions, typed.
 
 ghost use Rattle.std.specs.Prelude.{◌≡◌, ◌≤◌, IfOk, length, option_map};
-ghost use Rattle.contract_grammar.specs.Tree.{tree};
+ghost use Rattle.contract_grammar.specs.Held.{tree};
 ghost use Rattle.txn_core.specs.Meant.{operator_of, comparison_of, expr_of, cond_of};
 ghost use Rattle.contract_text.specs.Typed.{no_number, no_truth, calculation, comparison, used, typed_expr, typed_cond};
 

@@ -1,7 +1,7 @@
 //! The first flaw of an expression.
 
 ghost use Rattle.std.specs.Prelude.{◌≡◌, ◌≤◌, length};
-ghost use Rattle.contract_grammar.specs.Tree.{tree};
+ghost use Rattle.contract_grammar.specs.Held.{tree};
 ghost use Rattle.contract_text.specs.Flaws.{noted, expr_flaws};
 
 use crate::flaws::{Flaw, FlawKind, ValueKind, note, note_kind, operand_kind, result_kind};

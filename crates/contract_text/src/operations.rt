@@ -2,7 +2,7 @@
 
 ghost use Rattle.std.specs.Prelude.{◌≡◌, ◌++◌, IfOk, OnOk, map};
 ghost use Rattle.std.specs.List.{All};
-ghost use Rattle.contract_grammar.specs.Tree.{operation, operations};
+ghost use Rattle.contract_grammar.specs.Held.{operation, operations};
 ghost use Rattle.txn_core.specs.Meant.{kind_of, formal_of, op_of};
 ghost use Rattle.contract_text.specs.Flaws.{noted, param_flaws, op_flaws, flaws_behind};
 ghost use Rattle.contract_text.specs.Typed.{typed_kind, formal, typed_op};

@@ -2,15 +2,17 @@
 
 ghost use Rattle.std.specs.Prelude.{◌≡◌, ◌≤◌, IfErr, IfOk, length, map};
 ghost use Rattle.std.specs.List.{All};
-ghost use Rattle.contract_grammar.specs.Tree.{operation, operations};
+ghost use Rattle.contract_grammar.specs.Held.{operation, operations};
 ghost use Rattle.contract_grammar.specs.Reading.{reading};
-ghost use Rattle.oxii_defs.specs.WellFormed.{IsWellFormed, AllDiffer};
+ghost use Rattle.oxii_defs.specs.WellFormed.{IsWellFormed};
+ghost use Rattle.oxii_defs.specs.NameLists.{AllDiffer};
 ghost use Rattle.txn_core.specs.Meant.{op_of};
 ghost use Rattle.contract_text.specs.Laws.{AreLawfulOps};
 ghost use Rattle.contract_text.specs.Room.{HasRoomInOp};
 ghost use Rattle.contract_text.specs.Flaws.{first_flaw};
-ghost use Rattle.contract_text.specs.TextMeaning.{IsContract, HasTextFault};
-ghost use Rattle.contract_text.specs.Verdict.{judged, told, verdict, GivesVerdict, flawed};
+ghost use Rattle.contract_text.specs.TextMeaning.{IsContract};
+ghost use Rattle.contract_text.specs.TextFaults.{HasTextFault, flawed};
+ghost use Rattle.contract_text.specs.Verdict.{judged, told, verdict, GivesVerdict};
 
 use crate::faults::{Contract, TextFault};
 use crate::flaws::{Flaw, FlawKind};

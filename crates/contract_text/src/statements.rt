@@ -1,7 +1,7 @@
 //! Statements and blocks, typed.
 
 ghost use Rattle.std.specs.Prelude.{◌≡◌, ◌≤◌, ◌++◌, IfOk, OnOk, length, map, take};
-ghost use Rattle.contract_grammar.specs.Tree.{tree, statement, statements};
+ghost use Rattle.contract_grammar.specs.Held.{tree, statement, statements};
 ghost use Rattle.txn_core.specs.Meant.{expr_of, cond_of, stmt_of};
 ghost use Rattle.contract_text.specs.Symbols.{symbol_of, is_found, made_by, made};
 ghost use Rattle.contract_text.specs.Flaws.{noted, double_flaws, target_flaws, stmt_flaws, all_flaws};

@@ -1,7 +1,7 @@
 //! What names stand for.
 
 ghost use Rattle.std.specs.Prelude.{◌≡◌, ◌+◌, ◌≤◌, length};
-ghost use Rattle.txn_core.specs.Checked.{is_named};
+ghost use Rattle.oxii_defs.specs.NameLists.{is_named};
 ghost use Rattle.contract_text.specs.Symbols.{parameter_symbol, among_params, among_locals, symbol_of};
 
 use contract_grammar::{Param, ParamKind};

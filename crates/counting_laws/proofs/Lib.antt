@@ -1,3 +1,4 @@
+-- The lemmas of this crate.
 pub mod Reversed
 pub mod Firsts
 pub mod Reaching

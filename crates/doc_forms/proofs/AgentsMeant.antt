@@ -13,8 +13,8 @@ use Rattle.doc_forms.specs.declared.fault.Which.TheVariants as word
 use Rattle.doc_forms.specs.Faults.{Fault}
 use Rattle.doc_forms.specs.Forms.{number_at}
 use Rattle.doc_forms.specs.Tables.{place_below}
-use Rattle.doc_forms.specs.Meaning.{IsNameAt, HasSet}
-use Rattle.doc_forms.specs.Agents.{agents_at, agents_and_tau, HasAgents}
+use Rattle.doc_forms.specs.Meaning.{IsNameAt, HasSet, HasAgents}
+use Rattle.doc_forms.specs.Agents.{agents_at, agents_and_tau}
 use Rattle.doc_forms.proofs.Meant.{bind_ok, number_at_means, number_at_reads}
 use Rattle.doc_forms.proofs.LookUps.{AreNumbered, place_finds, finds_itself}
 use Rattle.doc_forms.proofs.SetsMeant.{set_at_means, set_at_reads, set_count, set_found}

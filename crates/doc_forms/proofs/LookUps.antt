@@ -12,7 +12,7 @@ use Rattle.std.proofs.lemmas.List.Sums.{position_or_len_is}
 use Rattle.std.proofs.lemmas.List.Elements.{Contains-get_or, Contains-append_left, Contains-append_right}
 use Rattle.txn_types.specs.declared.message.Node.{Node}
 use Rattle.txn_types.specs.declared.message.Node.TheVariants.{Peer, Orderer}
-use Rattle.oxii_defs.specs.WellFormed.{AllDiffer}
+use Rattle.oxii_defs.specs.NameLists.{AllDiffer}
 use Rattle.doc_forms.specs.Tables.{place_of, place_below, below, node_named}
 use Rattle.doc_forms.specs.Meaning.{IsNameAt, IsNodeName}
 use Rattle.doc_forms.proofs.SortedOnce.{there_cases, none_there}

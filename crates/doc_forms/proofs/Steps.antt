@@ -12,7 +12,8 @@ use Rattle.doc_forms.specs.declared.fault.Step.TheVariants.{Index}
 use Rattle.doc_forms.specs.declared.fault.DocFault.{DocFault}
 use Rattle.doc_forms.specs.declared.fault.DocFault.TheVariants as doc
 use Rattle.doc_forms.specs.Faults.{Fault}
-use Rattle.doc_forms.specs.Check.{◌>>=◌, within, Fails, FailsText, Gives, raised, IsRaised}
+use Rattle.doc_forms.specs.Check.{◌>>=◌, within, Fails, FailsText}
+use Rattle.doc_forms.specs.Answers.{Gives, raised, IsRaised}
 use Rattle.doc_forms.specs.Forms.{each}
 
 fails_text_under : {Y : Type 0} (s : Step) (app : ℕ) (f : TextFault) (check : Result Y Fault) → FailsText app f check → FailsText app f (within s check)

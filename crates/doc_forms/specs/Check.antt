@@ -1,5 +1,5 @@
 -- A check of a value: what the value stands for, or the first fault.
-use Rattle.std.specs.Prelude.{◌≡◌, ◌⊎◌, ℕ, ◌∷◌, Result, Ok, Err}
+use Rattle.std.specs.Prelude.{◌≡◌, ℕ, ◌∷◌, Result, Ok, Err}
 use Rattle.contract_text.specs.declared.faults.TextFault.{TextFault}
 use Rattle.contract_text.specs.declared.faults.TextFault.TheVariants as text
 use Rattle.doc_forms.specs.declared.fault.Step.{Step}
@@ -46,22 +46,3 @@ Fails (doc.Contract app f) check = FailsText app f check
 Fails (doc.Name p) check = check ≡ Err (Name p)
 Fails (doc.Double p) check = check ≡ Err (Double p)
 Fails doc.OutOfMemory check = Unit {0}
-
--- what a function returned, as contracts see it, is what the check gives, unless memory ran out
-abbrev pub Gives : {X Y : Type 0} → (X → Y) → Result X DocFault → Result Y Fault → Type 0
-Gives seen (Ok x) check = check ≡ Ok (seen x)
-Gives seen (Err e) check = Fails e check
-
--- a function's fault, from one step further up
-abbrev pub raised : Step → DocFault → DocFault
-raised s doc.NotJson = doc.NotJson
-raised s (doc.Field p) = doc.Field (s ∷ p)
-raised s (doc.Limit w n) = doc.Limit w n
-raised s (doc.Contract app f) = doc.Contract app f
-raised s (doc.Name p) = doc.Name (s ∷ p)
-raised s (doc.Double p) = doc.Double (s ∷ p)
-raised s doc.OutOfMemory = doc.OutOfMemory
-
--- the same, unless memory ran out
-abbrev pub IsRaised : Step → DocFault → DocFault → Type 0
-IsRaised s f e = (e ≡ raised s f) ⊎ (e ≡ doc.OutOfMemory)

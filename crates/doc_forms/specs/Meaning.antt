@@ -1,13 +1,14 @@
 -- What a document's values say, form by form: no order of checks, and no faults.
-use Rattle.std.specs.Prelude.{◌≡◌, ◌≢◌, ◌≤◌, ◌↔◌, ℕ, List, [], ◌∷◌, ◌++◌, map, slice_get, Option, Some}
+use Rattle.std.specs.Prelude.{◌≡◌, ◌≢◌, ◌≤◌, ◌↔◌, ℕ, List, [], ◌∷◌, ◌++◌, map, slice_get, Option, Some, codes, length}
 use Rattle.std.specs.List.{All, Contains}
 use Rattle.serde_json.specs.Data.{Data, number, unsigned, string, array, Items, no_items, item, Members, no_members, member}
 use Rattle.serde_json.specs.Events.{items_len}
+use Rattle.serde_json.specs.Find.{get_member}
 use Rattle.txn_types.specs.Names.{IsName}
 use Rattle.txn_types.specs.declared.message.Node.{Node}
 use Rattle.txn_types.specs.declared.message.Node.TheVariants.{Peer, Orderer}
 use Rattle.txn_types.specs.Rising.{IsRising}
-use Rattle.oxii_defs.specs.WellFormed.{AllDiffer}
+use Rattle.oxii_defs.specs.NameLists.{AllDiffer}
 
 -- a whole number in a range
 abbrev pub HasNumber : ℕ → ℕ → Option Data → ℕ → Type 0
@@ -78,3 +79,8 @@ pub record HasSet {E : Type 0} (rank : E → ℕ) (Names : List ℕ → E → Ty
   pub differ : RanksDiffer rank named
   pub rising : IsRising (map rank entries)
   pub same : (e : E) → Contains entries e ↔ Contains named e
+
+-- 1 to 16 of the peers, and at most as many to agree
+pub record HasAgents (peers : List (List ℕ)) (ms : Members) (agents : List ℕ) (tau : ℕ) : Type 0 where
+  pub agents_are : HasSet (λ p. p) (IsNameAt peers) 1 16 (get_member (codes "agents") ms) agents
+  pub tau_is : HasNumber 1 (length agents) (get_member (codes "tau") ms) tau

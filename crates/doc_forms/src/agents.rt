@@ -3,7 +3,7 @@
 ghost use Rattle.std.specs.Prelude.{◌≤◌, codes};
 ghost use Rattle.serde_json.specs.View.{members_view};
 ghost use Rattle.doc_forms.specs.declared.fault.Which.TheVariants.{Tau};
-ghost use Rattle.doc_forms.specs.Check.{Gives};
+ghost use Rattle.doc_forms.specs.Answers.{Gives};
 ghost use Rattle.doc_forms.specs.Forms.{number_at};
 ghost use Rattle.doc_forms.specs.Agents.{agents_at, agents_and_tau};
 

@@ -4,7 +4,7 @@ ghost use Rattle.std.specs.Prelude.{◌≡◌, ◌≤◌, [], Some, vec_len, IfO
 ghost use Rattle.serde_json.specs.Find.{get_member};
 ghost use Rattle.serde_json.specs.View.{view, items_view, members_view};
 ghost use Rattle.doc_forms.specs.declared.fault.Step.TheVariants.{Key, Index};
-ghost use Rattle.doc_forms.specs.Check.{Gives, IsRaised};
+ghost use Rattle.doc_forms.specs.Answers.{Gives, IsRaised};
 ghost use Rattle.doc_forms.specs.Forms.{seen, number_in, name, list_in, object};
 
 use crate::fault::{DocFault, Path, Step, Which};

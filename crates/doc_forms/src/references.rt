@@ -3,7 +3,7 @@
 ghost use Rattle.std.specs.Prelude.{◌≡◌, ◌≤◌, ℕ, List, Option, length};
 ghost use Rattle.serde_json.specs.View.{view};
 ghost use Rattle.txn_types.specs.Nodes.{rank_of};
-ghost use Rattle.doc_forms.specs.Check.{Gives};
+ghost use Rattle.doc_forms.specs.Answers.{Gives};
 ghost use Rattle.doc_forms.specs.Forms.{seen, is_listed};
 ghost use Rattle.doc_forms.specs.Tables.{place_of, place_below, node_named, new_name, reference, has_rank, count_below, new_reference};
 

@@ -4,7 +4,7 @@ ghost use Rattle.std.specs.Prelude.{◌≡◌, ◌<◌, ◌^◌, ℕ, List, Resu
 ghost use Rattle.serde_json.specs.Data.{Data};
 ghost use Rattle.serde_json.specs.View.{view, items_view, members_view};
 ghost use Rattle.doc_forms.specs.Faults.{Fault};
-ghost use Rattle.doc_forms.specs.Check.{Gives};
+ghost use Rattle.doc_forms.specs.Answers.{Gives};
 ghost use Rattle.doc_forms.specs.Forms.{seen, each, items, list_at, name_at, number_at};
 
 use crate::fault::{DocFault, Which};

@@ -8,7 +8,7 @@ use Rattle.serde_json.specs.declared.value.Value.{Value}
 use Rattle.doc_forms.specs.declared.fault.Which.{Which}
 use Rattle.doc_forms.specs.declared.fault.DocFault.{DocFault}
 use Rattle.doc_forms.specs.Faults.{Fault}
-use Rattle.doc_forms.specs.Check.{Gives}
+use Rattle.doc_forms.specs.Answers.{Gives}
 use Rattle.doc_forms.specs.Forms as form
 use Rattle.doc_forms.specs.Forms.{number_in}
 use Rattle.doc_forms.specs.Meaning.{HasNumber, EachSays, HasList}

@@ -1,3 +1,4 @@
+-- The lemmas of this crate.
 pub mod Arrays
 pub mod EndsMeant
 pub mod TablesMeant

@@ -7,7 +7,8 @@ use Rattle.serde_json.specs.Events.{items_len}
 use Rattle.txn_types.specs.declared.txn.Outcome.{Outcome}
 use Rattle.txn_types.specs.declared.message.Vote.{Vote}
 use Rattle.txn_types.specs.declared.event.Event.{Event}
-use Rattle.node_defs.specs.World.{Setting, MayBeNamed, AreNamed, AreSaidPreds, IsSaidOutcome, IsSaidVote, IsLawfulEvent, AreLawfulEvents, piece_at}
+use Rattle.node_defs.specs.World.{Setting, MayBeNamed, piece_at}
+use Rattle.node_defs.specs.LawfulEvents.{AreNamed, AreSaidPreds, IsSaidOutcome, IsSaidVote, IsLawfulEvent, AreLawfulEvents}
 use Rattle.doc_forms.specs.Meaning.{HasList}
 use Rattle.doc_forms.proofs.SetsMeant.{said_of, length_of_said}
 use Rattle.doc_forms.proofs.SortedOnce.{all_of}

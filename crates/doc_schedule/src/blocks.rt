@@ -2,7 +2,7 @@
 
 ghost use Rattle.std.specs.Prelude.{◌≡◌, ◌+◌, ◌≤◌, length, IfOk, MatchResult};
 ghost use Rattle.serde_json.specs.View.{view, items_view, members_view};
-ghost use Rattle.doc_forms.specs.Check.{Gives};
+ghost use Rattle.doc_forms.specs.Answers.{Gives};
 ghost use Rattle.doc_forms.specs.Forms.{seen};
 ghost use Rattle.doc_schedule.specs.Blocks.{role_at, may_stand, next_txn, txns_within, txns_of, txns_at, next_pred, next_preds, is_array_value, are_array_values, are_arrays, lists_of, preds, first_role, count_of, preds_at, links_at};
 

@@ -3,7 +3,7 @@
 ghost use Rattle.std.specs.Prelude.{◌≡◌, ◌<◌};
 ghost use Rattle.serde_json.specs.View.{view, members_view};
 ghost use Rattle.txn_types.specs.Values.{max_false};
-ghost use Rattle.doc_forms.specs.Check.{Gives};
+ghost use Rattle.doc_forms.specs.Answers.{Gives};
 ghost use Rattle.doc_forms.specs.Forms.{seen};
 ghost use Rattle.doc_schedule.specs.Schedule.{what_of, to_do, msg_at, deliver, all, say_block, say_commit, false_block, false_commit, by_what, next_event, schedule};
 

@@ -1,7 +1,7 @@
 //! Places, which a document numbers from 1.
 
 ghost use Rattle.std.specs.Prelude.{◌<◌, IfOk};
-ghost use Rattle.doc_forms.specs.Check.{Gives};
+ghost use Rattle.doc_forms.specs.Answers.{Gives};
 ghost use Rattle.doc_forms.specs.Forms.{seen};
 ghost use Rattle.doc_schedule.specs.Places.{place_in};
 

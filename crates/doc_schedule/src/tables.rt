@@ -2,7 +2,7 @@
 
 ghost use Rattle.std.specs.Prelude.{◌≡◌};
 ghost use Rattle.serde_json.specs.View.{members_view};
-ghost use Rattle.doc_forms.specs.Check.{Gives};
+ghost use Rattle.doc_forms.specs.Answers.{Gives};
 ghost use Rattle.doc_schedule.specs.Tables.{is_among, faulty_named, faulty_at};
 
 use doc_forms::{DocFault, NamedTable, NodeNames, at, member, reference};

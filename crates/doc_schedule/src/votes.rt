@@ -3,7 +3,7 @@
 ghost use Rattle.std.specs.Prelude.{◌≡◌, ◌+◌, ◌≤◌, [], codes, length, IfOk};
 ghost use Rattle.serde_json.specs.View.{view, items_view, members_view};
 ghost use Rattle.serde_json.specs.Find.{as_null, get_member};
-ghost use Rattle.doc_forms.specs.Check.{Gives};
+ghost use Rattle.doc_forms.specs.Answers.{Gives};
 ghost use Rattle.doc_forms.specs.Forms.{seen, each};
 ghost use Rattle.doc_schedule.specs.Votes.{reason_of, reason, written_by, next_out, outs, committed, aborted, outcome_by, vote, next_vote, votes_within, votes_of, votes_at};
 

@@ -1,3 +1,4 @@
+-- The lemmas of this crate.
 pub mod RequestsMeant
 pub mod ConfigsMeant
 pub mod Counts

@@ -12,7 +12,7 @@ use Rattle.txn_types.specs.declared.stream.Request.{Request}
 use Rattle.txn_types.specs.declared.stream.Item.{Item}
 use Rattle.oxii_defs.specs.Table.{Table}
 use Rattle.oxii_defs.specs.Lawful.{IsLawfulConfig}
-use Rattle.node_defs.specs.Admission.{IsLawfulItem, IsLawfulRequest, IsRequestSet, IsRequestArg}
+use Rattle.node_defs.specs.LawfulItems.{IsLawfulItem, IsLawfulRequest, IsRequestSet, IsRequestArg}
 use Rattle.doc_forms.specs.Meaning.{EachSays, IsNameAt, HasSet}
 use Rattle.doc_stream.specs.StreamMeaning.{SaysArg, SaysRequest, SaysConfig, SaysItem, mark, ask, change, SaysStream}
 use Rattle.doc_forms.proofs.SetsMeant.{length_of_said}

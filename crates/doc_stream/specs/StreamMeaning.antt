@@ -10,8 +10,7 @@ use Rattle.txn_types.specs.declared.block.Config.{Config}
 use Rattle.txn_types.specs.declared.stream.Request.{Request}
 use Rattle.txn_types.specs.declared.stream.Item.{Item}
 use Rattle.txn_types.specs.declared.stream.Item.TheVariants as item
-use Rattle.doc_forms.specs.Meaning.{IsNameAt, HasNumber, HasName, HasReference, HasOnly, HasList, HasSet}
-use Rattle.doc_forms.specs.Agents.{HasAgents}
+use Rattle.doc_forms.specs.Meaning.{IsNameAt, HasNumber, HasName, HasReference, HasOnly, HasList, HasSet, HasAgents}
 
 -- a string is the name of a record, and a number is itself
 abbrev pub SaysArg : List (List ℕ) → Data → Arg → Type 0

@@ -1,7 +1,7 @@
 //! A configuration.
 
 ghost use Rattle.serde_json.specs.View.{members_view};
-ghost use Rattle.doc_forms.specs.Check.{Gives};
+ghost use Rattle.doc_forms.specs.Answers.{Gives};
 ghost use Rattle.doc_stream.specs.Configs.{app_at, stream_config};
 
 use doc_forms::{DocFault, at, member, only, read_agents_and_tau, reference};

@@ -2,7 +2,7 @@
 
 ghost use Rattle.std.specs.Prelude.{◌≡◌};
 ghost use Rattle.serde_json.specs.View.{view, members_view};
-ghost use Rattle.doc_forms.specs.Check.{Gives};
+ghost use Rattle.doc_forms.specs.Answers.{Gives};
 ghost use Rattle.doc_stream.specs.Requests.{argument, next_argument, args_at, set_at, stream_request};
 
 use doc_forms::{

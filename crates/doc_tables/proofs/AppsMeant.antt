@@ -6,9 +6,10 @@ use Rattle.std.proofs.lemmas.List.{map-append}
 use Rattle.serde_json.specs.Data.{Data, object, Members}
 use Rattle.serde_json.specs.Find.{get_member, as_str}
 use Rattle.oxii_defs.specs.Syntax.{Op}
-use Rattle.oxii_defs.specs.WellFormed.{AllDiffer}
+use Rattle.oxii_defs.specs.NameLists.{AllDiffer}
 use Rattle.oxii_defs.specs.Table.{App}
-use Rattle.contract_text.specs.Verdict.{Verdict, accepted, syntax_fault, limit_fault, flawed, verdict}
+use Rattle.contract_text.specs.Verdict.{verdict}
+use Rattle.contract_text.specs.TextFaults.{Verdict, accepted, syntax_fault, limit_fault, flawed}
 use Rattle.contract_text.proofs.Judged.{contract_of, accepted_of}
 use Rattle.doc_forms.specs.declared.fault.Step.TheVariants.{Key}
 use Rattle.doc_forms.specs.declared.fault.Which.TheVariants as word
@@ -24,8 +25,8 @@ use Rattle.doc_forms.proofs.Listed.{listed_decides}
 use Rattle.doc_forms.proofs.LookUps.{AreNumbered}
 use Rattle.doc_forms.proofs.NamesMeant.{absent_is_new, differ_at_end, differ_before, names_at_mean, names_at_read}
 use Rattle.doc_forms.proofs.AgentsMeant.{agents_mean, agents_read}
-use Rattle.doc_tables.specs.Apps.{app_names, unused, unused_at, ops_told, text_read, contract, contract_at, only_app_keys, application, app_in, next_app, apps_in, apps}
-use Rattle.doc_tables.specs.AppsMeaning.{HasContract, SaysApp, SaysApps}
+use Rattle.doc_tables.specs.Apps.{unused, unused_at, ops_told, text_read, contract, contract_at, only_app_keys, application, app_in, next_app, apps_in, apps}
+use Rattle.doc_tables.specs.AppsMeaning.{app_names, HasContract, SaysApp, SaysApps}
 
 -- ---- the contract
 
@@ -36,7 +37,7 @@ told_accepts app (syntax_fault at) ops e = absurd cc
 told_accepts app (limit_fault at) ops e = absurd cc
 told_accepts app (flawed f) ops e = absurd cc
 
-text_accepted : (app : ℕ) (text : List ℕ) (ops : List Op) → text_read app text ≡ Ok ops → (length text ≤ 65536) × (verdict text ≡ accepted ops)
+text_accepted : (app : ℕ) (text : List ℕ) (ops : List Op) → text_read verdict app text ≡ Ok ops → (length text ≤ 65536) × (verdict text ≡ accepted ops)
 unfolding text_read
 text_accepted app text ops e = by_test (leb (length text) 65536) (λ t. leb-true (length text) 65536 t) e
   where
@@ -44,14 +45,14 @@ text_accepted app text ops e = by_test (leb (length text) 65536) (λ t. leb-true
     by_test true f e = (f refl, told_accepts app (verdict text) ops e)
     by_test false f e = absurd cc
 
-pub contract_means : (app : ℕ) (v : Option Data) (ops : List Op) → contract app v ≡ Ok ops → HasContract v ops
+pub contract_means : (app : ℕ) (v : Option Data) (ops : List Op) → contract verdict app v ≡ Ok ops → HasContract v ops
 unfolding contract
 contract_means app v ops e =
     let a = bind_ok (wanted (option_and_then as_str v)) _ ops e in
     let t = text_accepted app a.0 ops a.2 in
     record { text = a.0; is = text_is v a.0 (wanted_ok _ _ a.1); short = t.0; is_contract = contract_of a.0 ops t.1 }
 
-pub contract_reads : (app : ℕ) (v : Option Data) (ops : List Op) → HasContract v ops → contract app v ≡ Ok ops
+pub contract_reads : (app : ℕ) (v : Option Data) (ops : List Op) → HasContract v ops → contract verdict app v ≡ Ok ops
 unfolding contract text_read
 contract_reads app v ops h = rw (h.is, le-leb (length h.text) 65536 h.short, accepted_of h.text ops h.is_contract) refl
 
@@ -79,13 +80,13 @@ unused_reads before v text h new = rw (name_reads v text h, not_named (app_names
 
 -- ---- an application
 
-application_means : (peers : List (List ℕ)) → AreNumbered 256 peers → (before : List App) (d : Data) (ms : Members) (app : App) → d ≡ object ms → application peers before ms ≡ Ok app → SaysApp peers d app × IsUnused before app
+application_means : (peers : List (List ℕ)) → AreNumbered 256 peers → (before : List App) (d : Data) (ms : Members) (app : App) → d ≡ object ms → application verdict peers before ms ≡ Ok app → SaysApp peers d app × IsUnused before app
 unfolding application unused_at contract_at only_app_keys
 application_means peers numbered before d ms app is e =
     let called = bind_ok (unused_at (codes "name") before ms) _ app e in
     let who = bind_ok (agents_and_tau peers ms) _ app called.2 in
     let clients = bind_ok (list_at (codes "clients") 0 64 word.Clients (new_name []) [] ms) _ app who.2 in
-    let ops = bind_ok (contract_at (codes "contract") (length before) ms) _ app clients.2 in
+    let ops = bind_ok (contract_at verdict (codes "contract") (length before) ms) _ app clients.2 in
     let rest = bind_ok (only_app_keys ms) _ app ops.2 in
     let made : record { name = called.0; agents = who.0.agents; tau = who.0.tau; clients = clients.0; ops = ops.0 } ≡ app = same_ok _ app (Ok _) refl rest.2 in
     let name = unused_means before (get_member (codes "name") ms) called.0 (within_ok (Key (codes "name")) (unused before (get_member (codes "name") ms)) called.0 called.1) in
@@ -96,13 +97,13 @@ application_means peers numbered before d ms app is e =
         name = name.0;
         agents = agents_mean peers numbered ms who.0 who.1;
         clients = names_at_mean [] (codes "clients") 0 64 word.Clients ms clients.0 tt clients.1;
-        contract = contract_means (length before) (get_member (codes "contract") ms) ops.0 (within_ok (Key (codes "contract")) (contract (length before) (get_member (codes "contract") ms)) ops.0 ops.1);
+        contract = contract_means (length before) (get_member (codes "contract") ms) ops.0 (within_ok (Key (codes "contract")) (contract verdict (length before) (get_member (codes "contract") ms)) ops.0 ops.1);
         only = only_means _ ms rest.0 rest.1;
       },
       name.1,
     )
 
-application_reads : (peers : List (List ℕ)) → AreNumbered 256 peers → (before : List App) (d : Data) (app : App) (s : SaysApp peers d app) → IsUnused before app → application peers before s.members ≡ Ok app
+application_reads : (peers : List (List ℕ)) → AreNumbered 256 peers → (before : List App) (d : Data) (app : App) (s : SaysApp peers d app) → IsUnused before app → application verdict peers before s.members ≡ Ok app
 unfolding application unused_at contract_at only_app_keys
 application_reads peers numbered before d app s new =
     rw (
@@ -115,11 +116,11 @@ application_reads peers numbered before d app s new =
     refl
 
 -- what is done with one item
-app_step : (peers : List (List ℕ)) → AreNumbered 256 peers → IsStep (next_app peers) (SaysApp peers) at_end IsUnused
+app_step : (peers : List (List ℕ)) → AreNumbered 256 peers → IsStep (next_app verdict peers) (SaysApp peers) at_end IsUnused
 unfolding next_app app_in
 app_step peers numbered = record {
   means = λ before more d e.
-      let app = bind_ok (app_in peers before d) _ more e in
+      let app = bind_ok (app_in verdict peers before d) _ more e in
       let ms = bind_ok (form.object (Some d)) _ app.0 app.1 in
       let said = application_means peers numbered before d ms.0 app.0 (object_of d ms.0 (members_are (Some d) ms.0 ms.1)) ms.2 in
       (app.0, said.0, said.1, same_ok (before ++ app.0 ∷ []) more (Ok (before ++ app.0 ∷ [])) refl app.2);
@@ -147,16 +148,16 @@ differ_unused before (x ∷ xs) h = (
   differ_unused (before ++ x ∷ []) xs (subst (λ l. AllDiffer (app_names l)) (sym (append_assoc before (x ∷ []) xs)) h),
 )
 
-pub apps_mean : (peers : List (List ℕ)) → AreNumbered 256 peers → (ms : Members) (list : List App) → apps peers ms ≡ Ok list → SaysApps peers ms list
+pub apps_mean : (peers : List (List ℕ)) → AreNumbered 256 peers → (ms : Members) (list : List App) → apps verdict peers ms ≡ Ok list → SaysApps peers ms list
 unfolding apps apps_in
 apps_mean peers numbered ms list e =
-    let inside = within_ok (Key (codes "apps")) (apps_in peers (get_member (codes "apps") ms)) list e in
-    let g = items_mean (next_app peers) (SaysApp peers) at_end IsUnused (app_step peers numbered) 1 16 word.Apps [] (get_member (codes "apps") ms) list inside in
+    let inside = within_ok (Key (codes "apps")) (apps_in verdict peers (get_member (codes "apps") ms)) list e in
+    let g = items_mean (next_app verdict peers) (SaysApp peers) at_end IsUnused (app_step peers numbered) 1 16 word.Apps [] (get_member (codes "apps") ms) list inside in
     let is : g.xs ≡ list = sym (all_at_end [] g.xs) ∙ g.is in
     record { list = subst (HasList (SaysApp peers) 1 16 (get_member (codes "apps") ms)) is g.list; differ = subst (λ l. AllDiffer (app_names l)) is (unused_differ [] g.xs tt g.fresh) }
 
-pub apps_read : (peers : List (List ℕ)) → AreNumbered 256 peers → (ms : Members) (list : List App) → SaysApps peers ms list → apps peers ms ≡ Ok list
+pub apps_read : (peers : List (List ℕ)) → AreNumbered 256 peers → (ms : Members) (list : List App) → SaysApps peers ms list → apps verdict peers ms ≡ Ok list
 unfolding apps apps_in
 apps_read peers numbered ms list s =
-    let inside = items_read (next_app peers) (SaysApp peers) at_end IsUnused (app_step peers numbered) 1 16 word.Apps [] (get_member (codes "apps") ms) list s.list (differ_unused [] list s.differ) in
+    let inside = items_read (next_app verdict peers) (SaysApp peers) at_end IsUnused (app_step peers numbered) 1 16 word.Apps [] (get_member (codes "apps") ms) list s.list (differ_unused [] list s.differ) in
     rw (inside, all_at_end [] list) refl

@@ -10,7 +10,8 @@ use Rattle.doc_forms.specs.Tables.{node_named}
 use Rattle.doc_forms.specs.Meaning.{IsNodeName}
 use Rattle.doc_forms.proofs.LookUps.{NodesDiffer, nodes_find, finds_itself}
 use Rattle.doc_forms.proofs.SetsMeant.{set_at_means, set_at_reads, set_count}
-use Rattle.doc_tables.specs.Faulty.{faulty, SaysFaulty}
+use Rattle.doc_tables.specs.Faulty.{faulty}
+use Rattle.doc_tables.specs.FaultyMeaning.{SaysFaulty}
 
 pub faulty_means : (orderers peers : List (List ℕ)) → NodesDiffer orderers peers → (ms : Members) (nodes : List Node) → faulty orderers peers ms ≡ Ok nodes → SaysFaulty orderers peers ms nodes
 unfolding faulty

@@ -1,3 +1,4 @@
+-- The lemmas of this crate.
 pub mod Mapped
 pub mod Turns
 pub mod AppsMeant

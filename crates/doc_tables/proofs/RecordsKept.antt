@@ -7,7 +7,7 @@ use Rattle.serde_json.specs.Data.{Data}
 use Rattle.txn_types.specs.Values.{max_value, IsValue, AreValues}
 use Rattle.doc_forms.specs.declared.fault.Which.TheVariants as word
 use Rattle.doc_forms.specs.declared.fault.DocFault.{DocFault}
-use Rattle.doc_forms.specs.Check.{Gives}
+use Rattle.doc_forms.specs.Answers.{Gives}
 use Rattle.doc_forms.specs.Forms.{number_in}
 use Rattle.doc_forms.proofs.Meant.{number_means}
 

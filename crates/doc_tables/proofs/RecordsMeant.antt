@@ -13,7 +13,7 @@ use Rattle.serde_json.specs.Find as find
 use Rattle.serde_json.specs.Events.{items_len}
 use Rattle.txn_types.specs.Names.{IsName}
 use Rattle.txn_types.specs.Values.{max_value, IsValue, AreValues}
-use Rattle.oxii_defs.specs.WellFormed.{AllDiffer}
+use Rattle.oxii_defs.specs.NameLists.{AllDiffer}
 use Rattle.doc_forms.specs.declared.fault.Which.TheVariants as word
 use Rattle.doc_forms.specs.Faults.{Field}
 use Rattle.doc_forms.specs.Forms.{name, number_in}
@@ -24,7 +24,8 @@ use Rattle.doc_forms.proofs.EachMeant.{IsStep, AllFresh, put_all, list_at_means,
 use Rattle.doc_forms.proofs.SortedOnce.{SortedBy, IsAsymmetric, sorted_once, all_of, first_there, later_there, there_cases, none_there}
 use Rattle.doc_forms.proofs.NamesMeant.{differ_at_end, differ_before}
 use Rattle.doc_forms.proofs.SetsMeant.{inserted_there, kept_there, insert_cases, length_of_said, said_of}
-use Rattle.doc_tables.specs.Records.{Valued, pair, no_place, with_record, next_record, records, SaysRecord, SaysRecords}
+use Rattle.doc_tables.specs.Records.{pair, no_place, with_record, next_record, records}
+use Rattle.doc_tables.specs.RecordsMeaning.{Valued, SaysRecord, SaysRecords}
 use Rattle.doc_tables.proofs.RecordsKept.{lengths_after}
 use Rattle.doc_tables.proofs.RecordsSorted.{lower, one_way, sorted_in_order, in_order_sorted, is_absent, not_found, gap_sorted, gap_within, zip_inserted}
 

@@ -12,8 +12,7 @@ use Rattle.std.proofs.lemmas.Slice.Eq.{bytes_eq-Decides}
 use Rattle.std.proofs.lemmas.Bool.Decides.{nat_tests}
 use Rattle.std.proofs.lemmas.List.Sums.{position_or_len_is, fails_before_first}
 use Rattle.std.proofs.lemmas.List.Elements.{All-nil, All-cons, All-head, All-contains, All-weaker, Contains-get_or}
-use Rattle.oxii_defs.specs.WellFormed.{AllDiffer}
-use Rattle.oxii_defs.specs.Lawful.{AreInOrder}
+use Rattle.oxii_defs.specs.NameLists.{AllDiffer, AreInOrder}
 use Rattle.doc_forms.specs.Sorted.{order, gap_of}
 use Rattle.doc_forms.specs.Tables.{place_of}
 use Rattle.doc_tables.proofs.RecordsKept.{all_inserted}

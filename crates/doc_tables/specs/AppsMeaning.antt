@@ -1,14 +1,16 @@
 -- What a document says of its applications: no order of checks, and no faults.
-use Rattle.std.specs.Prelude.{◌≡◌, ◌≤◌, ℕ, List, [], ◌∷◌, length, codes, Option}
+use Rattle.std.specs.Prelude.{◌≡◌, ◌≤◌, ℕ, List, [], ◌∷◌, length, codes, Option, map}
 use Rattle.serde_json.specs.Data.{Data, object, Members}
 use Rattle.serde_json.specs.Find.{get_member}
 use Rattle.oxii_defs.specs.Syntax.{Op}
-use Rattle.oxii_defs.specs.WellFormed.{AllDiffer}
+use Rattle.oxii_defs.specs.NameLists.{AllDiffer}
 use Rattle.oxii_defs.specs.Table.{App}
 use Rattle.contract_text.specs.TextMeaning.{IsContract}
-use Rattle.doc_forms.specs.Meaning.{HasText, HasName, HasOnly, HasList, HasNames}
-use Rattle.doc_forms.specs.Agents.{HasAgents}
-use Rattle.doc_tables.specs.Apps.{app_names}
+use Rattle.doc_forms.specs.Meaning.{HasText, HasName, HasOnly, HasList, HasNames, HasAgents}
+
+-- the names of applications
+abbrev pub app_names : List App → List (List ℕ)
+app_names apps = map (λ app. app.name) apps
 
 -- the text of a contract, which stands for these operations by the grammar, the limits and the flaws
 pub record HasContract (v : Option Data) (ops : List Op) : Type 0 where

@@ -1,3 +1,4 @@
+-- The definitions of this crate, with those of lower crates that its clauses cite.
 pub use Rattle.txn_types.specs.Names
 pub use Rattle.txn_types.specs.Nodes
 pub use Rattle.txn_types.specs.Values
@@ -5,10 +6,14 @@ pub use Rattle.oxii_defs.specs.Table
 pub use Rattle.oxii_defs.specs.Lawful
 pub use Rattle.txn_core.specs.MeantTable
 pub use Rattle.contract_text.specs.TextMeaning
+pub use Rattle.contract_text.specs.TextFaults
 pub use Rattle.contract_text.specs.Verdict
 pub use Rattle.doc_forms.specs.Check
+pub use Rattle.doc_forms.specs.Answers
 pub use Rattle.doc_forms.specs.Meaning
 pub mod Apps
 pub mod AppsMeaning
 pub mod Faulty
+pub mod FaultyMeaning
 pub mod Records
+pub mod RecordsMeaning

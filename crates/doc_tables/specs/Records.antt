@@ -1,27 +1,18 @@
--- The records: names in byte order, each with its value.
-use Rattle.std.specs.Prelude.{◌≡◌, ◌↔◌, ℕ, ◌==◌, List, [], codes, map, length, Option, Some, None, Result, Ok, Err, if◌then◌else◌, ⊤}
-use Rattle.std.specs.List.{Contains, insert, zip}
-use Rattle.serde_json.specs.Data.{Data, array, item, no_items, Members}
-use Rattle.serde_json.specs.Find.{as_array, get_member}
+-- The records, with their first fault: names in byte order, each with its value.
+use Rattle.std.specs.Prelude.{ℕ, ◌==◌, List, [], codes, Option, Some, None, Result, Ok, Err, if◌then◌else◌, ⊤}
+use Rattle.std.specs.List.{insert}
+use Rattle.serde_json.specs.Data.{Data, Members}
+use Rattle.serde_json.specs.Find.{as_array}
 use Rattle.serde_json.specs.Find as find
 use Rattle.serde_json.specs.Events.{items_len}
 use Rattle.txn_types.specs.Values.{max_value}
-use Rattle.oxii_defs.specs.WellFormed.{AllDiffer}
-use Rattle.oxii_defs.specs.Lawful.{AreInOrder}
 use Rattle.doc_forms.specs.declared.fault.Which.TheVariants as word
 use Rattle.doc_forms.specs.Faults.{Fault, Field, Double}
 use Rattle.doc_forms.specs.Check.{◌>>=◌}
 use Rattle.doc_forms.specs.Forms.{wanted, name, number_in, list_at}
 use Rattle.doc_forms.specs.Tables.{place_of}
 use Rattle.doc_forms.specs.Sorted.{gap_of}
-use Rattle.doc_forms.specs.Meaning.{HasName, HasNumber, HasList}
-
--- names, and the value of each
-pub record Valued : Type 0 where
-  pub names : List (List ℕ)
-  pub values : List ℕ
-
--- ---- the walk
+use Rattle.doc_tables.specs.RecordsMeaning.{Valued}
 
 -- an array of two
 unfoldable pub pair : Data → Result ⊤ Fault
@@ -49,22 +40,3 @@ next_record before d = do
 
 unfoldable pub records : Members → Result Valued Fault
 records ms = list_at (codes "records") 0 4096 word.Records next_record (record { names = []; values = [] }) ms
-
--- ---- what it says
-
--- a pair of a name and a value
-pub record SaysRecord (d : Data) (given : List ℕ × ℕ) : Type 0 where
-  pub first : Data
-  pub second : Data
-  pub is : d ≡ array (item first (item second no_items))
-  pub named : HasName (Some first) given.0
-  pub valued : HasNumber 0 max_value (Some second) given.1
-
--- pairs with different names; the records are these, in byte order of their names
-pub record SaysRecords (ms : Members) (records : Valued) : Type 0 where
-  pub given : List (List ℕ × ℕ)
-  pub list : HasList SaysRecord 0 4096 (get_member (codes "records") ms) given
-  pub differ : AllDiffer (map (λ pair. pair.0) given)
-  pub order : AreInOrder records.names
-  pub count : length records.values ≡ length records.names
-  pub same : (pair : List ℕ × ℕ) → Contains (zip records.names records.values) pair ↔ Contains given pair

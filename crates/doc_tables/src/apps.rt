@@ -6,12 +6,15 @@ ghost use Rattle.std.specs.Str.{bytes_eq};
 ghost use Rattle.serde_json.specs.View.{view, items_view, members_view};
 ghost use Rattle.txn_core.specs.Meant.{op_of};
 ghost use Rattle.txn_core.specs.MeantTable.{app_of};
-ghost use Rattle.contract_text.specs.Verdict.{Verdict, GivesVerdict};
+ghost use Rattle.contract_text.specs.Verdict.{GivesVerdict, verdict};
+ghost use Rattle.contract_text.specs.TextFaults.{Verdict};
 ghost use Rattle.doc_forms.specs.declared.fault.Which.TheVariants.{Clients};
-ghost use Rattle.doc_forms.specs.Check.{Gives, Fails};
+ghost use Rattle.doc_forms.specs.Check.{Fails};
+ghost use Rattle.doc_forms.specs.Answers.{Gives};
 ghost use Rattle.doc_forms.specs.Forms.{seen, is_listed, each, list_at};
 ghost use Rattle.doc_forms.specs.Tables.{new_name};
-ghost use Rattle.doc_tables.specs.Apps.{app_names, unused, unused_at, ops_told, text_read, contract, contract_at, only_app_keys, application, app_in, next_app, apps_in, apps};
+ghost use Rattle.doc_tables.specs.Apps.{unused, unused_at, ops_told, text_read, contract, contract_at, only_app_keys, application, app_in, next_app, apps_in, apps};
+ghost use Rattle.doc_tables.specs.AppsMeaning.{app_names};
 
 use contract_text::{TextFault, read_contract};
 use doc_forms::{
@@ -73,7 +76,7 @@ fn contract_fault(app: u32, fault: TextFault) -> DocFault
 /// The operations of a text of at most 65,536 bytes.
 #[tactic(auto, unfolding(crate::specs::Apps::text_read))]
 fn text_read(alloc: Global, app: u32, text: &str) -> Result<Ops, DocFault>
-    ensures { Gives (λ ops. map op_of ops) result (text_read app text.now) }
+    ensures { Gives (λ ops. map op_of ops) result (text_read verdict app text.now) }
 {
     if text.len() > 65536 {
         return Err(DocFault::Limit {
@@ -90,7 +93,7 @@ fn text_read(alloc: Global, app: u32, text: &str) -> Result<Ops, DocFault>
 /// The operations of the contract of the application with this index.
 #[tactic(auto, unfolding(crate::specs::Apps::contract))]
 fn contract(alloc: Global, app: u32, value: Option<&Value>) -> Result<Ops, DocFault>
-    ensures { Gives (λ ops. map op_of ops) result (contract app (seen value.entry)) }
+    ensures { Gives (λ ops. map op_of ops) result (contract verdict app (seen value.entry)) }
 {
     let Some(value) = value else {
         return Err(field_fault(alloc));
@@ -108,7 +111,7 @@ fn contract_at(
     app: u32,
     members: &Map<String, Value>,
 ) -> Result<Ops, DocFault>
-    ensures { Gives (λ ops. map op_of ops) result (contract_at key.now app (members_view members.now.entries)) }
+    ensures { Gives (λ ops. map op_of ops) result (contract_at verdict key.now app (members_view members.now.entries)) }
 {
     at(alloc, key, contract(alloc, app, member(members, key)))
 }
@@ -148,7 +151,7 @@ fn application(
     members: &Map<String, Value>,
 ) -> Result<App, DocFault>
     requires { length before.now < 2 ^ 32 }
-    ensures { Gives app_of result (application peers.now (map app_of before.now) (members_view members.now.entries)) }
+    ensures { Gives app_of result (application verdict peers.now (map app_of before.now) (members_view members.now.entries)) }
 {
     let name = unused_at(alloc, "name", before, members)?;
     let who = read_agents_and_tau(alloc, peers, members)?;
@@ -168,7 +171,7 @@ fn application(
 #[tactic(auto, unfolding(crate::specs::Apps::app_in))]
 fn app_in(alloc: Global, peers: &Names, before: &[App], item: &Value) -> Result<App, DocFault>
     requires { length before.now < 2 ^ 32 }
-    ensures { Gives app_of result (app_in peers.now (map app_of before.now) (view item.now)) }
+    ensures { Gives app_of result (app_in verdict peers.now (map app_of before.now) (view item.now)) }
 {
     let members = object(alloc, Some(item))?;
     application(alloc, peers, before, members)
@@ -177,7 +180,7 @@ fn app_in(alloc: Global, peers: &Names, before: &[App], item: &Value) -> Result<
 /// The applications, one after another.
 fn each_app(alloc: Global, peers: &Names, list: &[Value]) -> Result<Apps, DocFault>
     requires { length list.now ≤ 16 }
-    ensures { Gives (λ done. map app_of done) result (each (next_app peers.now) 0 [] (items_view list.now)) }
+    ensures { Gives (λ done. map app_of done) result (each (next_app verdict peers.now) 0 [] (items_view list.now)) }
 {
     let mut done = Apps::new(alloc);
     let mut i = 0u32;
@@ -191,7 +194,7 @@ fn each_app(alloc: Global, peers: &Names, list: &[Value]) -> Result<Apps, DocFau
 
 #[tactic(auto, unfolding(crate::specs::Apps::apps_in, doc_forms::specs::Forms::items))]
 fn apps_in(alloc: Global, peers: &Names, value: Option<&Value>) -> Result<Apps, DocFault>
-    ensures { Gives (λ list. map app_of list) result (apps_in peers.now (seen value.entry)) }
+    ensures { Gives (λ list. map app_of list) result (apps_in verdict peers.now (seen value.entry)) }
 {
     let list = list_in(alloc, 1, 16, Which::Apps, value)?;
     each_app(alloc, peers, list.as_slice())
@@ -204,7 +207,7 @@ pub fn read_apps(
     peers: &Names,
     members: &Map<String, Value>,
 ) -> Result<Apps, DocFault>
-    ensures { Gives (λ list. map app_of list) result (apps peers.now (members_view members.now.entries)) }
+    ensures { Gives (λ list. map app_of list) result (apps verdict peers.now (members_view members.now.entries)) }
 {
     at(
         alloc,

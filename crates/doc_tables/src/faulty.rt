@@ -1,7 +1,7 @@
 //! The faulty nodes.
 
 ghost use Rattle.serde_json.specs.View.{members_view};
-ghost use Rattle.doc_forms.specs.Check.{Gives};
+ghost use Rattle.doc_forms.specs.Answers.{Gives};
 ghost use Rattle.doc_tables.specs.Faulty.{faulty};
 
 use doc_forms::{DocFault, NewReference, NodeNames, Which, list_at};

@@ -5,7 +5,7 @@ ghost use Rattle.serde_json.specs.View.{view, members_view};
 ghost use Rattle.std.specs.List.{insert};
 ghost use Rattle.txn_types.specs.Values.{max_value, IsValue, AreValues};
 ghost use Rattle.doc_forms.specs.declared.fault.Which.TheVariants as word;
-ghost use Rattle.doc_forms.specs.Check.{Gives};
+ghost use Rattle.doc_forms.specs.Answers.{Gives};
 ghost use Rattle.doc_forms.specs.Forms.{seen, number_in};
 ghost use Rattle.doc_forms.specs.Sorted.{IsGap};
 ghost use Rattle.doc_tables.specs.Records.{pair, next_record, records};
@@ -28,7 +28,7 @@ pub struct Records {
 impl Model for Records {
     ghost use Rattle.std.specs.Prelude.{◌≡◌, length};
     ghost use Rattle.txn_types.specs.Values.{AreValues};
-    ghost use Rattle.doc_tables.specs.Records.{Valued};
+    ghost use Rattle.doc_tables.specs.RecordsMeaning.{Valued};
 
     ghost Value = { Valued };
 

@@ -5,7 +5,8 @@ use Rattle.std.specs.List.{AllByRecursion}
 use Rattle.txn_types.specs.declared.message.Split.{Split}
 use Rattle.txn_types.specs.declared.txn.Outcome.{Outcome}
 use Rattle.txn_types.specs.declared.txn.Outcome.TheVariants.{Commit, Abort}
-use Rattle.oxii_defs.specs.Table.{Table, IsRecord}
+use Rattle.oxii_defs.specs.Table.{Table}
+use Rattle.oxii_defs.specs.Lawful.{IsRecord}
 use Rattle.node_defs.specs.Ledger.{Halt}
 
 -- what a split says

@@ -6,7 +6,8 @@ use Rattle.txn_types.specs.declared.txn.Txn.{Txn}
 use Rattle.txn_types.specs.declared.txn.Outcome.{Outcome}
 use Rattle.oxii_defs.specs.Table.{Table}
 use Rattle.oxii_defs.specs.BlockBytes.{block_hash}
-use Rattle.oxii_defs.specs.Chain.{no_hash, IsLawfulBlock}
+use Rattle.oxii_defs.specs.Chain.{no_hash}
+use Rattle.oxii_defs.specs.Lawful.{IsLawfulBlock}
 use Rattle.oxii_defs.specs.Lines as lines
 use Rattle.hash_ledger.specs.declared.entry.Entry.{Entry}
 

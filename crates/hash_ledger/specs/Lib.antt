@@ -1,3 +1,4 @@
+-- The definitions of this crate, with those of lower crates that its clauses cite.
 pub use Rattle.oxii_defs.specs.Syntax
 pub use Rattle.oxii_defs.specs.Table
 pub use Rattle.oxii_defs.specs.Lawful

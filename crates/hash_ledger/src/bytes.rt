@@ -2,9 +2,7 @@
 
 ghost use Rattle.std.specs.Prelude.{◌≡◌, ◌<◌, ◌≤◌, ◌++◌, ◌∷◌, [], List, ℕ, Option, Some, None, length, map, OnOk, IfOk};
 ghost use Rattle.std.specs.List.{All, flat_map};
-ghost use Rattle.oxii_defs.specs.Table.{IsLawfulTxn, IsRecord, IsKnown};
-ghost use Rattle.oxii_defs.specs.Lawful.{IsLawfulBody, IsLawfulConfig};
-ghost use Rattle.oxii_defs.specs.Chain.{IsLawfulBlock};
+ghost use Rattle.oxii_defs.specs.Lawful.{IsLawfulTxn, IsRecord, IsKnown, IsLawfulBody, IsLawfulConfig, IsLawfulBlock};
 ghost use Rattle.oxii_defs.specs.BlockBytes.{record_name, peer_name, name_bytes, arg_bytes, args_bytes, records_bytes, peers_bytes, txn_bytes, config_bytes, body_bytes, block_bytes, block_hash};
 ghost use Rattle.txn_core.specs.MeantTable.{table_of};
 

@@ -2,7 +2,7 @@
 
 ghost use Rattle.std.specs.Prelude.{◌≡◌, ◌≤◌, ◌<◌, ◌+◌, ◌^◌, ◌++◌, [], ◌∷◌, length, map, slice_get, Some, OnOk, OnErr};
 ghost use Rattle.oxii_defs.specs.BlockBytes.{block_hash};
-ghost use Rattle.oxii_defs.specs.Chain.{IsLawfulBlock};
+ghost use Rattle.oxii_defs.specs.Lawful.{IsLawfulBlock};
 ghost use Rattle.oxii_defs.specs.State.{State};
 ghost use Rattle.oxii_defs.specs.Table as meant;
 ghost use Rattle.node_defs.specs.Accepted.{tip};

@@ -2,8 +2,8 @@
 
 ghost use Rattle.std.specs.Prelude.{◌≡◌, ◌<◌, ◌^◌, ◌+◌, ◌++◌, ◌∷◌, [], length, IfOk};
 ghost use Rattle.std.specs.List.{All};
-ghost use Rattle.oxii_defs.specs.Chain.{chain, IsLawfulBlock};
-ghost use Rattle.oxii_defs.specs.Lawful.{IsLawfulBody};
+ghost use Rattle.oxii_defs.specs.Chain.{chain};
+ghost use Rattle.oxii_defs.specs.Lawful.{IsLawfulBlock, IsLawfulBody};
 ghost use Rattle.oxii_defs.specs.BlockBytes.{block_hash};
 ghost use Rattle.txn_core.specs.MeantTable.{table_of};
 

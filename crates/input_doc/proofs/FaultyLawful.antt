@@ -12,8 +12,8 @@ use Rattle.txn_types.specs.declared.message.Node.TheVariants.{Peer, Orderer}
 use Rattle.oxii_defs.specs.Table.{Table}
 use Rattle.doc_forms.specs.Meaning.{IsNodeName}
 use Rattle.doc_forms.proofs.SetsMeant.{set_count, set_found}
-use Rattle.doc_tables.specs.Faulty.{SaysFaulty}
-use Rattle.input_doc.specs.Inputs.{IsNodeOf}
+use Rattle.doc_tables.specs.FaultyMeaning.{SaysFaulty}
+use Rattle.input_doc.specs.LawfulInputs.{IsNodeOf}
 
 module _ (table : Table) where
   named_is_there : (node : Node) → (text : List ℕ) × IsNodeName table.orderers table.peers text node → IsNodeOf table node

@@ -16,7 +16,8 @@ use Rattle.doc_forms.specs.Forms as form
 use Rattle.doc_forms.specs.Forms.{wanted, whole, number_at}
 use Rattle.doc_forms.specs.Meaning.{HasText}
 use Rattle.doc_forms.proofs.Meant.{bind_ok, within_ok, wanted_ok, whole_is, text_is, passed, members_are, number_at_means, number_at_reads, only_means, only_reads}
-use Rattle.input_doc.specs.Head.{version, version_at, kind_named, kind, graph_kind_at, graph_kind_word, cut, cut_at, SaysCut}
+use Rattle.input_doc.specs.Head.{version, version_at, kind_named, kind, graph_kind_at, cut, cut_at}
+use Rattle.input_doc.specs.HeadMeaning.{graph_kind_word, SaysCut}
 
 -- the version
 

@@ -1,3 +1,4 @@
+-- The lemmas of this crate.
 pub mod Sizes
 pub mod HeadMeant
 pub mod TablesLawful
@@ -5,5 +6,6 @@ pub mod Trees
 pub mod PiecesFew
 pub mod FaultyLawful
 pub mod Whole
+pub mod Judges
 pub mod Once
 pub mod Answered

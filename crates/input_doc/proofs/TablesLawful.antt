@@ -10,7 +10,8 @@ use Rattle.txn_types.specs.declared.txn.Kind.{Kind}
 use Rattle.txn_types.specs.declared.stream.Item.{Item}
 use Rattle.oxii_defs.specs.Table.{Table}
 use Rattle.oxii_defs.specs.Lawful.{IsLawfulTable}
-use Rattle.node_defs.specs.Admission.{IsLawfulItem}
+use Rattle.node_defs.specs.LawfulItems.{IsLawfulItem}
+use Rattle.contract_text.specs.Verdict.{verdict}
 use Rattle.doc_forms.specs.declared.fault.Which.TheVariants as word
 use Rattle.doc_forms.specs.Faults.{Fault}
 use Rattle.doc_forms.specs.Forms.{list_at, number_at}
@@ -18,9 +19,10 @@ use Rattle.doc_forms.specs.Tables.{new_name}
 use Rattle.doc_forms.specs.Meaning.{HasNumber, HasNames}
 use Rattle.doc_forms.proofs.Meant.{bind_ok, number_at_means, number_at_reads}
 use Rattle.doc_forms.proofs.NamesMeant.{names_at_mean, names_at_read}
-use Rattle.doc_tables.specs.Records.{Valued, records, SaysRecords}
-use Rattle.doc_tables.specs.Apps.{app_names, apps}
-use Rattle.doc_tables.specs.AppsMeaning.{SaysApps}
+use Rattle.doc_tables.specs.Records.{records}
+use Rattle.doc_tables.specs.RecordsMeaning.{Valued, SaysRecords}
+use Rattle.doc_tables.specs.Apps.{apps}
+use Rattle.doc_tables.specs.AppsMeaning.{app_names, SaysApps}
 use Rattle.doc_forms.proofs.LookUps.{AreNumbered, NodesDiffer}
 use Rattle.doc_tables.proofs.RecordsSorted.{order_differs}
 use Rattle.doc_tables.proofs.RecordsMeant.{records_mean, records_read, records_kept}
@@ -71,12 +73,12 @@ nodes_mean ms n e =
       peers = names_at_mean orderers.0 (codes "peers") 1 16 word.Peers ms peers.0 first.differ peers.1;
     })
 
-pub tables_mean : (kind : Kind) (ms : Members) (t : Tables) → tables kind ms ≡ Ok t → Parts kind ms t
+pub tables_mean : (kind : Kind) (ms : Members) (t : Tables) → tables verdict kind ms ≡ Ok t → Parts kind ms t
 unfolding tables
 tables_mean kind ms t e =
     let valued = bind_ok (records ms) _ t e in
     let named = bind_ok (nodes ms) _ t valued.2 in
-    let all = bind_ok (apps named.0.peers ms) _ t named.2 in
+    let all = bind_ok (apps verdict named.0.peers ms) _ t named.2 in
     let said = nodes_mean ms named.0 named.1 in
     subst (Parts kind ms) (same_tables (record {
       table = record { kind = kind; records = valued.0.names; orderers = named.0.orderers; quorum = named.0.quorum; peers = named.0.peers; apps = all.0 };
@@ -120,7 +122,7 @@ nodes_read ms n orderers quorum peers =
 
 pub tables_read : (ms : Members) (t : Tables) → SaysRecords ms (record { names = t.table.records; values = t.genesis })
     → HasNames [] 1 16 (get_member (codes "orderers") ms) t.table.orderers → HasNumber 1 (length t.table.orderers) (get_member (codes "quorum") ms) t.table.quorum
-    → HasNames t.table.orderers 1 16 (get_member (codes "peers") ms) t.table.peers → SaysApps t.table.peers ms t.table.apps → tables t.table.kind ms ≡ Ok t
+    → HasNames t.table.orderers 1 16 (get_member (codes "peers") ms) t.table.peers → SaysApps t.table.peers ms t.table.apps → tables verdict t.table.kind ms ≡ Ok t
 unfolding tables
 tables_read ms t said orderers quorum peers all =
     rw (
@@ -130,11 +132,11 @@ tables_read ms t said orderers quorum peers all =
     ) refl
 
 -- the table that a document's keys give is lawful
-pub table_is_lawful : (kind : Kind) (ms : Members) (t : Tables) → tables kind ms ≡ Ok t → IsLawfulTable t.table
+pub table_is_lawful : (kind : Kind) (ms : Members) (t : Tables) → tables verdict kind ms ≡ Ok t → IsLawfulTable t.table
 table_is_lawful kind ms t e = parts_lawful kind ms t (tables_mean kind ms t e)
 
 -- each record has a value
-pub genesis_fits : (kind : Kind) (ms : Members) (t : Tables) → tables kind ms ≡ Ok t → (length t.genesis ≡ length t.table.records) × All IsValue t.genesis
+pub genesis_fits : (kind : Kind) (ms : Members) (t : Tables) → tables verdict kind ms ≡ Ok t → (length t.genesis ≡ length t.table.records) × All IsValue t.genesis
 genesis_fits kind ms t e =
     let kept = records_kept ms (record { names = t.table.records; values = t.genesis }) (tables_mean kind ms t e).read in
     (kept.3, kept.2)
@@ -160,11 +162,11 @@ parts_numbered kind ms t p =
       of_nodes = nodes_differ _ _ t.table.orderers t.table.peers p.orderers p.peers;
     }
 
-pub table_is_numbered : (kind : Kind) (ms : Members) (t : Tables) → tables kind ms ≡ Ok t → Numbered t.table
+pub table_is_numbered : (kind : Kind) (ms : Members) (t : Tables) → tables verdict kind ms ≡ Ok t → Numbered t.table
 table_is_numbered kind ms t e = parts_numbered kind ms t (tables_mean kind ms t e)
 
 -- the items of the stream are lawful for the table
-pub items_are_lawful : (kind : Kind) (ms : Members) (t : Tables) (items : List Item) → tables kind ms ≡ Ok t → items_for t.table ms ≡ Ok items → All (IsLawfulItem t.table) items × (length items ≤ 8192)
+pub items_are_lawful : (kind : Kind) (ms : Members) (t : Tables) (items : List Item) → tables verdict kind ms ≡ Ok t → items_for t.table ms ≡ Ok items → All (IsLawfulItem t.table) items × (length items ≤ 8192)
 unfolding items_for
 items_are_lawful kind ms t items said e =
     let numbered = table_is_numbered kind ms t said in

@@ -6,15 +6,17 @@ use Rattle.txn_types.specs.declared.txn.Kind.{Kind}
 use Rattle.txn_types.specs.declared.stream.CutLimits.{CutLimits}
 use Rattle.txn_types.specs.declared.stream.Item.{Item}
 use Rattle.oxii_defs.specs.Table.{Table}
-use Rattle.node_defs.specs.Cutting.{AreLawfulLimits}
+use Rattle.node_defs.specs.LawfulItems.{AreLawfulLimits}
+use Rattle.contract_text.specs.Verdict.{verdict}
 use Rattle.doc_forms.specs.Faults.{Fault}
 use Rattle.doc_forms.specs.Forms as form
 use Rattle.doc_forms.specs.Meaning.{HasOnly}
 use Rattle.doc_forms.proofs.Meant.{bind_ok, members_are, only_means, only_reads}
 use Rattle.node_defs.specs.Admission.{pieces_of}
 use Rattle.node_defs.specs.World.{setting_of}
-use Rattle.doc_tables.specs.Apps.{app_names}
-use Rattle.doc_tables.specs.Faulty.{faulty, SaysFaulty}
+use Rattle.doc_tables.specs.AppsMeaning.{app_names}
+use Rattle.doc_tables.specs.Faulty.{faulty}
+use Rattle.doc_tables.specs.FaultyMeaning.{SaysFaulty}
 use Rattle.doc_tables.proofs.FaultyMeant.{faulty_means, faulty_reads}
 use Rattle.doc_tables.proofs.RecordsMeant.{records_mean}
 use Rattle.doc_stream.specs.StreamMeaning.{SaysStream}
@@ -23,11 +25,14 @@ use Rattle.doc_schedule.specs.Schedule.{schedule}
 use Rattle.doc_schedule.specs.ScheduleMeaning.{SaysSchedule}
 use Rattle.doc_schedule.proofs.ScheduleMeant.{schedule_means, schedule_reads}
 use Rattle.doc_schedule.proofs.ScheduleLaw.{schedule_lawful}
-use Rattle.input_doc.specs.Inputs.{Input, IsLawfulInput}
-use Rattle.input_doc.specs.Head.{version_at, graph_kind_at, cut_at, SaysCut}
+use Rattle.input_doc.specs.Inputs.{Input}
+use Rattle.input_doc.specs.LawfulInputs.{IsLawfulInput}
+use Rattle.input_doc.specs.Head.{version_at, graph_kind_at, cut_at}
+use Rattle.input_doc.specs.HeadMeaning.{SaysCut}
 use Rattle.input_doc.specs.declared.head.Head.{Head}
 use Rattle.input_doc.specs.declared.stream_and_schedule.FaultySchedule.{FaultySchedule}
-use Rattle.input_doc.specs.Reading.{Tables, first_keys, tables, items_for, faulty_schedule, only_root_keys, roles_of, root_keys, document, tree_of, read_tree, reading}
+use Rattle.input_doc.specs.Reading.{Tables, first_keys, tables, items_for, faulty_schedule, only_root_keys, roles_of, document, read_tree, reading}
+use Rattle.input_doc.specs.Root.{root_keys, tree_of}
 use Rattle.input_doc.specs.Means.{SaysDocument, Means}
 use Rattle.input_doc.proofs.HeadMeant.{version_means, version_reads, kind_means, kind_reads, cut_means, cut_reads}
 use Rattle.input_doc.proofs.TablesLawful.{Numbered, tables_mean, tables_read, table_is_lawful, table_is_numbered, genesis_fits, items_are_lawful}
@@ -113,22 +118,22 @@ record Steps (d : Data) (input : Input) : Type 0 where
   ms : Members
   is : d ≡ object ms
   first : first_keys ms ≡ Ok (record { kind = input.table.kind; limits = input.limits })
-  middle : tables input.table.kind ms ≡ Ok (record { table = input.table; genesis = input.genesis })
+  middle : tables verdict input.table.kind ms ≡ Ok (record { table = input.table; genesis = input.genesis })
   items : items_for input.table ms ≡ Ok input.items
   last : faulty_schedule input.table input.items ms ≡ Ok (record { faulty = input.faulty; schedule = input.schedule })
 
 with_kind : (ms : Members) (h : Head) (k : Kind) → k ≡ h.kind → first_keys ms ≡ Ok h → first_keys ms ≡ Ok (record { kind = k; limits = h.limits })
 with_kind ms h k kept e = subst (λ (j : Kind). first_keys ms ≡ head_is (record { kind = j; limits = h.limits })) (sym kept) e
 
-at_kind : (k : Kind) (ms : Members) (t : Tables) → t.table.kind ≡ k → tables k ms ≡ Ok t → tables t.table.kind ms ≡ Ok t
-at_kind k ms t kept e = subst (λ (j : Kind). tables j ms ≡ tables_are t) (sym kept) e
+at_kind : (k : Kind) (ms : Members) (t : Tables) → t.table.kind ≡ k → tables verdict k ms ≡ Ok t → tables verdict t.table.kind ms ≡ Ok t
+at_kind k ms t kept e = subst (λ (j : Kind). tables verdict j ms ≡ tables_are t) (sym kept) e
 
-steps_of : (d : Data) (input : Input) → document d ≡ Ok input → Steps d input
+steps_of : (d : Data) (input : Input) → document verdict d ≡ Ok input → Steps d input
 unfolding document
 steps_of d input e =
     let ms = bind_ok (form.object (Some d)) _ input e in
     let h = bind_ok (first_keys ms.0) _ input ms.2 in
-    let t = bind_ok (tables h.0.kind ms.0) _ input h.2 in
+    let t = bind_ok (tables verdict h.0.kind ms.0) _ input h.2 in
     let xs = bind_ok (items_for t.0.table ms.0) _ input t.2 in
     let a = bind_ok (faulty_schedule t.0.table xs.0 ms.0) _ input xs.2 in
     let kept = (tables_mean h.0.kind ms.0 t.0 t.1).kept in
@@ -144,7 +149,7 @@ steps_of d input e =
     one_tree : (tree : Data) (all : Members) → Some tree ≡ Some (object all) → tree ≡ object all
     one_tree tree all same = cc
 
-document_means : (d : Data) (input : Input) → document d ≡ Ok input → SaysDocument d input
+document_means : (d : Data) (input : Input) → document verdict d ≡ Ok input → SaysDocument d input
 document_means d input e =
     let steps = steps_of d input e in
     let first = head_means steps.ms (record { kind = input.table.kind; limits = input.limits }) steps.first in
@@ -168,7 +173,7 @@ document_means d input e =
       only = last.only;
     }
 
-document_reads : (d : Data) (input : Input) → SaysDocument d input → document d ≡ Ok input
+document_reads : (d : Data) (input : Input) → SaysDocument d input → document verdict d ≡ Ok input
 unfolding document
 document_reads d input said =
     let t : Tables = record { table = input.table; genesis = input.genesis } in
@@ -182,17 +187,17 @@ document_reads d input said =
       faulty_schedule_reads input.table numbered input.items said.members (record { faulty = input.faulty; schedule = input.schedule }) (record { faulty = said.faulty; schedule = said.schedule; only = said.only }),
     ) refl
 
-from_tree : (bytes : List ℕ) (o : Option Data) (input : Input) → tree_of bytes ≡ o → read_tree o ≡ Ok input → Means bytes input
+from_tree : (bytes : List ℕ) (o : Option Data) (input : Input) → tree_of bytes ≡ o → read_tree verdict o ≡ Ok input → Means bytes input
 from_tree bytes None input is e = absurd cc
 from_tree bytes (Some d) input is e = record { tree = d; read = is; says = document_means d input e }
 
 -- what is read of bytes is what they mean
 
-pub reading_means : (bytes : List ℕ) (input : Input) → reading bytes ≡ Ok input → Means bytes input
+pub reading_means : (bytes : List ℕ) (input : Input) → reading verdict bytes ≡ Ok input → Means bytes input
 unfolding reading
 reading_means bytes input e = from_tree bytes (tree_of bytes) input refl e
 
-pub reading_reads : (bytes : List ℕ) (input : Input) → Means bytes input → reading bytes ≡ Ok input
+pub reading_reads : (bytes : List ℕ) (input : Input) → Means bytes input → reading verdict bytes ≡ Ok input
 unfolding reading
 reading_reads bytes input h = rw h.read (document_reads h.tree input h.says)
 
@@ -201,7 +206,7 @@ reading_reads bytes input h = rw h.read (document_reads h.tree input h.says)
 cut_is_lawful : (v : Option Data) (limits : CutLimits) → SaysCut v limits → AreLawfulLimits limits
 cut_is_lawful v limits h = record { txns = (omega (arith, h.txns.1), h.txns.2); bytes_from = h.bytes.1; bytes_to = h.bytes.2 }
 
-document_is_lawful : (d : Data) (input : Input) → document d ≡ Ok input → IsLawfulInput input
+document_is_lawful : (d : Data) (input : Input) → document verdict d ≡ Ok input → IsLawfulInput input
 document_is_lawful d input e =
     let steps = steps_of d input e in
     let t : Tables = record { table = input.table; genesis = input.genesis } in
@@ -223,10 +228,10 @@ document_is_lawful d input e =
       schedule = λ genesis bodies. schedule_lawful (setting_of input.table genesis input.items bodies input.faulty) said.members input.schedule said.schedule;
     }
 
-lawful_tree : (o : Option Data) (input : Input) → read_tree o ≡ Ok input → IsLawfulInput input
+lawful_tree : (o : Option Data) (input : Input) → read_tree verdict o ≡ Ok input → IsLawfulInput input
 lawful_tree None input e = absurd cc
 lawful_tree (Some d) input e = document_is_lawful d input e
 
-pub reading_is_lawful : (bytes : List ℕ) (input : Input) → reading bytes ≡ Ok input → IsLawfulInput input
+pub reading_is_lawful : (bytes : List ℕ) (input : Input) → reading verdict bytes ≡ Ok input → IsLawfulInput input
 unfolding reading
 reading_is_lawful bytes input e = lawful_tree (tree_of bytes) input e

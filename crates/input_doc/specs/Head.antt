@@ -1,8 +1,8 @@
--- What stands first in a document: its version, the kind of graphs, and how the stream is cut.
-use Rattle.std.specs.Prelude.{◌≡◌, ℕ, ◌==◌, List, [], ◌∷◌, codes, Option, Some, None, option_and_then, Result, Ok, Err, if◌then◌else◌, ⊤}
+-- What stands first in a document, with its first fault: its version, the kind of graphs, and how the stream is cut.
+use Rattle.std.specs.Prelude.{ℕ, ◌==◌, List, [], ◌∷◌, codes, Option, Some, None, option_and_then, Result, Ok, Err, if◌then◌else◌, ⊤}
 use Rattle.std.specs.Str.{bytes_eq}
 use Rattle.serde_json.specs.Data.{Data, Members, object}
-use Rattle.serde_json.specs.Find.{as_str, get_member}
+use Rattle.serde_json.specs.Find.{as_str}
 use Rattle.txn_types.specs.declared.txn.Kind.{Kind}
 use Rattle.txn_types.specs.declared.txn.Kind.TheVariants.{Full, Raw}
 use Rattle.txn_types.specs.declared.stream.CutLimits.{CutLimits}
@@ -11,9 +11,6 @@ use Rattle.doc_forms.specs.Faults.{Fault, Field}
 use Rattle.doc_forms.specs.Check.{◌>>=◌}
 use Rattle.doc_forms.specs.Forms.{wanted, whole, at, number_at, only}
 use Rattle.doc_forms.specs.Forms as form
-use Rattle.doc_forms.specs.Meaning.{HasNumber, HasOnly}
-
--- THE CHECKS
 
 -- the number 1
 unfoldable pub version : Option Data → Result ⊤ Fault
@@ -47,17 +44,3 @@ cut v = do
 
 unfoldable pub cut_at : List ℕ → Members → Result CutLimits Fault
 cut_at k ms = at k ms cut
-
--- WHAT THEY SAY
-
-abbrev pub graph_kind_word : Kind → List ℕ
-graph_kind_word Full = codes "full"
-graph_kind_word Raw = codes "raw"
-
--- an object with the two limits
-pub record SaysCut (v : Option Data) (limits : CutLimits) : Type 0 where
-  pub members : Members
-  pub is : v ≡ Some (object members)
-  pub txns : HasNumber 1 256 (get_member (codes "txns") members) limits.txns
-  pub bytes : HasNumber 2048 1048576 (get_member (codes "bytes") members) limits.bytes
-  pub only : HasOnly (codes "txns" ∷ codes "bytes" ∷ []) members

@@ -1,14 +1,22 @@
+-- The definitions of this crate, with those of lower crates that its clauses cite.
 pub use Rattle.oxii_defs.specs.Table
 pub use Rattle.oxii_defs.specs.Lawful
 pub use Rattle.node_defs.specs.Admission
+pub use Rattle.node_defs.specs.LawfulItems
 pub use Rattle.node_defs.specs.Cutting
 pub use Rattle.node_defs.specs.World
 pub use Rattle.txn_core.specs.MeantTable
 pub use Rattle.doc_forms.specs.Faults
 pub use Rattle.doc_forms.specs.Check
+pub use Rattle.doc_forms.specs.Answers
 pub use Rattle.doc_forms.specs.Meaning
 pub mod Inputs
+pub mod LawfulInputs
 pub mod Head
+pub mod HeadMeaning
 pub mod Reading
+pub mod Root
 pub mod Held
 pub mod Means
+pub mod ExactlyOne
+pub mod FirstFaults

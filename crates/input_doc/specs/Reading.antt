@@ -1,19 +1,19 @@
 -- A document as a whole, with its first fault: the checks in the order of the keys.
-use Rattle.std.specs.Prelude.{ℕ, List, [], ◌∷◌, codes, length, map, Option, Some, None, Result, Ok, Err, if◌then◌else◌, ⊤}
-use Rattle.std.specs.Str.{is_utf8}
+use Rattle.std.specs.Prelude.{ℕ, List, [], codes, length, map, Option, Some, None, Result, Ok, Err, ⊤}
 use Rattle.serde_json.specs.Data.{Data, Members}
-use Rattle.serde_json.specs.Read.{read}
 use Rattle.txn_types.specs.declared.txn.Kind.{Kind}
 use Rattle.txn_types.specs.declared.stream.Item.{Item}
 use Rattle.oxii_defs.specs.Table.{Table}
 use Rattle.node_defs.specs.Admission.{pieces_of}
+use Rattle.contract_text.specs.TextFaults.{Judge}
 use Rattle.doc_forms.specs.declared.fault.Which.TheVariants as word
 use Rattle.doc_forms.specs.Faults.{Fault, NotJson}
 use Rattle.doc_forms.specs.Check.{◌>>=◌}
 use Rattle.doc_forms.specs.Forms.{object, list_at, number_at, only}
 use Rattle.doc_forms.specs.Tables.{new_name}
 use Rattle.doc_tables.specs.Records.{records}
-use Rattle.doc_tables.specs.Apps.{app_names, apps}
+use Rattle.doc_tables.specs.Apps.{apps}
+use Rattle.doc_tables.specs.AppsMeaning.{app_names}
 use Rattle.doc_tables.specs.Faulty.{faulty}
 use Rattle.doc_stream.specs.Stream.{stream}
 use Rattle.doc_schedule.specs.declared.tables.ItemRole.{ItemRole}
@@ -24,6 +24,7 @@ use Rattle.input_doc.specs.declared.tables.DocNodes.{DocNodes}
 use Rattle.input_doc.specs.declared.stream_and_schedule.FaultySchedule.{FaultySchedule}
 use Rattle.input_doc.specs.Inputs.{Input}
 use Rattle.input_doc.specs.Head.{version_at, graph_kind_at, cut_at}
+use Rattle.input_doc.specs.Root.{root_keys, tree_of}
 
 -- the kind of graphs, and how the stream is cut
 unfoldable pub first_keys : Members → Result Head Fault
@@ -46,11 +47,11 @@ pub record Tables : Type 0 where
   pub table : Table
   pub genesis : List ℕ
 
-unfoldable pub tables : Kind → Members → Result Tables Fault
-tables kind ms = do
+unfoldable pub tables : Judge → Kind → Members → Result Tables Fault
+tables judge kind ms = do
   valued ← records ms
   nodes ← nodes ms
-  apps ← apps nodes.peers ms
+  apps ← apps judge nodes.peers ms
   Ok (record {
     table = record { kind = kind; records = valued.names; orderers = nodes.orderers; quorum = nodes.quorum; peers = nodes.peers; apps = apps };
     genesis = valued.values;
@@ -59,12 +60,6 @@ tables kind ms = do
 -- what each item of the stream is to a block
 abbrev pub roles_of : Table → List Item → List ItemRole
 roles_of table items = map role_of (pieces_of table items)
-
--- the keys of the root
-abbrev pub root_keys : List (List ℕ)
-root_keys =
-    codes "version" ∷ codes "kind" ∷ codes "cut" ∷ codes "records" ∷ codes "orderers" ∷ codes "quorum" ∷ codes "peers"
-    ∷ codes "apps" ∷ codes "stream" ∷ codes "faulty" ∷ codes "schedule" ∷ []
 
 -- the items of the stream, by the names of the table
 unfoldable pub items_for : Table → Members → Result (List Item) Fault
@@ -82,23 +77,19 @@ faulty_schedule table items ms = do
   Ok (record { faulty = faulty; schedule = events })
 
 -- the root is an object with these keys, in this order
-unfoldable pub document : Data → Result Input Fault
-document d = do
+unfoldable pub document : Judge → Data → Result Input Fault
+document judge d = do
   ms ← object (Some d)
   head ← first_keys ms
-  tables ← tables head.kind ms
+  tables ← tables judge head.kind ms
   items ← items_for tables.table ms
   faulty_schedule ← faulty_schedule tables.table items ms
   Ok (record { table = tables.table; genesis = tables.genesis; items = items; limits = head.limits; faulty = faulty_schedule.faulty; schedule = faulty_schedule.schedule })
 
--- the tree of the bytes, where they are UTF-8 and JSON of at most 127 levels
-unfoldable pub tree_of : List ℕ → Option Data
-tree_of bytes = if is_utf8 bytes then read bytes else None
+abbrev pub read_tree : Judge → Option Data → Result Input Fault
+read_tree judge None = Err NotJson
+read_tree judge (Some d) = document judge d
 
-abbrev pub read_tree : Option Data → Result Input Fault
-read_tree None = Err NotJson
-read_tree (Some d) = document d
-
--- what the bytes mean, or their first fault
-unfoldable pub reading : List ℕ → Result Input Fault
-reading bytes = read_tree (tree_of bytes)
+-- what the bytes mean, or their first fault, where each contract's text comes to what the judge tells
+unfoldable pub reading : Judge → List ℕ → Result Input Fault
+reading judge bytes = read_tree judge (tree_of bytes)

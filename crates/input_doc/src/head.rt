@@ -2,7 +2,7 @@
 
 ghost use Rattle.std.specs.Prelude.{◌≡◌};
 ghost use Rattle.serde_json.specs.View.{members_view};
-ghost use Rattle.doc_forms.specs.Check.{Gives};
+ghost use Rattle.doc_forms.specs.Answers.{Gives};
 ghost use Rattle.doc_forms.specs.Forms.{seen};
 ghost use Rattle.input_doc.specs.Head.{version, version_at, kind_named, kind, graph_kind_at, cut, cut_at};
 ghost use Rattle.input_doc.specs.Reading.{first_keys};

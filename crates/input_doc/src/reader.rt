@@ -2,12 +2,15 @@
 
 ghost use Rattle.std.specs.Prelude.{◌≡◌, ◌⊎◌, ◌≤◌, IfOk, IfErr};
 ghost use Rattle.serde_json.specs.View.{view};
+ghost use Rattle.contract_text.specs.Verdict.{verdict};
 ghost use Rattle.doc_forms.specs.declared.fault.DocFault.TheVariants as fault;
-ghost use Rattle.doc_forms.specs.Check.{Gives};
-ghost use Rattle.input_doc.specs.Inputs.{IsLawfulInput};
+ghost use Rattle.doc_forms.specs.Answers.{Gives};
+ghost use Rattle.input_doc.specs.LawfulInputs.{IsLawfulInput};
 ghost use Rattle.input_doc.specs.Held.{input_of};
 ghost use Rattle.input_doc.specs.Reading.{document, reading};
-ghost use Rattle.input_doc.specs.Means.{Means, IsFaultOf, ExactlyOne, GivesTree};
+ghost use Rattle.input_doc.specs.Means.{Means};
+ghost use Rattle.input_doc.specs.ExactlyOne.{ExactlyOne, GivesTree};
+ghost use Rattle.input_doc.specs.FirstFaults.{IsFaultOf};
 
 use crate::head::read_head;
 use crate::input::Input;
@@ -35,7 +38,7 @@ fn tree(alloc: Global, bytes: &[u8]) -> Result<Value, DocFault>
 
 #[tactic(auto, unfolding(crate::specs::Reading::document))]
 fn read_document(alloc: Global, root: &Value) -> Result<Input, DocFault>
-    ensures { Gives input_of result (document (view root.now)) }
+    ensures { Gives input_of result (document verdict (view root.now)) }
 {
     let members = object(alloc, Some(root))?;
     let head = read_head(alloc, members)?;
@@ -55,7 +58,7 @@ fn read_document(alloc: Global, root: &Value) -> Result<Input, DocFault>
 
 #[tactic(auto, unfolding(crate::specs::Reading::reading))]
 fn read_exactly(alloc: Global, bytes: &[u8]) -> Result<Input, DocFault>
-    ensures { Gives input_of result (reading bytes.now) }
+    ensures { Gives input_of result (reading verdict bytes.now) }
 {
     let root = tree(alloc, bytes)?;
     read_document(alloc, &root)

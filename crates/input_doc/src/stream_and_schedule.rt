@@ -4,11 +4,12 @@ ghost use Rattle.std.specs.Prelude.{◌≡◌, map, IfOk};
 ghost use Rattle.std.specs.List.{All};
 ghost use Rattle.serde_json.specs.View.{members_view};
 ghost use Rattle.oxii_defs.specs.Lawful.{IsLawfulTable};
-ghost use Rattle.node_defs.specs.Admission.{IsLawfulItem, piece_of};
+ghost use Rattle.node_defs.specs.Admission.{piece_of};
+ghost use Rattle.node_defs.specs.LawfulItems.{IsLawfulItem};
 ghost use Rattle.txn_core.specs.MeantTable.{app_of, table_of};
-ghost use Rattle.doc_tables.specs.Apps.{app_names};
+ghost use Rattle.doc_tables.specs.AppsMeaning.{app_names};
 ghost use Rattle.doc_schedule.specs.Tables.{role_of};
-ghost use Rattle.doc_forms.specs.Check.{Gives};
+ghost use Rattle.doc_forms.specs.Answers.{Gives};
 ghost use Rattle.input_doc.specs.Reading.{items_for, roles_of, only_root_keys, faulty_schedule};
 ghost use Rattle.input_doc.specs.Held.{tables_of};
 

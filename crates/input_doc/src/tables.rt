@@ -3,7 +3,8 @@
 ghost use Rattle.std.specs.Prelude.{◌≡◌, [], IfOk};
 ghost use Rattle.serde_json.specs.View.{members_view};
 ghost use Rattle.txn_core.specs.MeantTable.{table_of};
-ghost use Rattle.doc_forms.specs.Check.{Gives};
+ghost use Rattle.contract_text.specs.Verdict.{verdict};
+ghost use Rattle.doc_forms.specs.Answers.{Gives};
 ghost use Rattle.doc_forms.specs.Forms.{list_at};
 ghost use Rattle.doc_forms.specs.Tables.{new_name};
 ghost use Rattle.input_doc.specs.Reading.{nodes, tables};
@@ -101,7 +102,7 @@ pub fn read_tables(
     kind: Kind,
     members: &Map<String, Value>,
 ) -> Result<Tables, DocFault>
-    ensures { Gives tables_of result (tables kind (members_view members.now.entries)) }
+    ensures { Gives tables_of result (tables verdict kind (members_view members.now.entries)) }
 {
     let records = read_records(alloc, members)?;
     let nodes = read_nodes(alloc, members)?;

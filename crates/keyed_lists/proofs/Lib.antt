@@ -1,3 +1,4 @@
+-- The lemmas of this crate.
 mod KeyedLemmas
 pub mod Among
 pub mod Numbers

@@ -1,3 +1,4 @@
+-- The lemmas of this crate.
 mod GraphLists
 mod NewblockLemmas
 mod Counting

@@ -11,9 +11,11 @@ use Rattle.txn_types.specs.declared.txn.Arg.{Arg}
 use Rattle.txn_types.specs.declared.txn.Arg.TheVariants as arg
 use Rattle.txn_types.specs.declared.txn.Txn.{Txn}
 use Rattle.oxii_defs.specs.Syntax.{Formal, Name, NumKind, Op, ParamKind, RecKind}
-use Rattle.oxii_defs.specs.Table.{App, IsKnown, IsLawfulTxn, IsRecord, Table, op_in}
+use Rattle.oxii_defs.specs.Table.{App, Table, op_in}
+use Rattle.oxii_defs.specs.Lawful.{IsKnown, IsLawfulTxn, IsRecord}
 use Rattle.oxii_defs.specs.WellFormed.{Match}
-use Rattle.node_defs.specs.Admission.{IsLawfulRequest, IsRequestArg, admit, are_kinds, is_kind, first_named, same_name, with_app, with_args, with_op, with_sets}
+use Rattle.node_defs.specs.Admission.{admit, are_kinds, is_kind, first_named, same_name, with_app, with_args, with_op, with_sets}
+use Rattle.node_defs.specs.LawfulItems.{IsLawfulRequest, IsRequestArg}
 
 -- WHAT IS FOUND BY NAME
 

@@ -3,7 +3,8 @@ use Rattle.std.specs.Prelude.{List}
 use Rattle.std.specs.List.{All, slice_index_or}
 use Rattle.txn_types.specs.declared.event.Event.{Event}
 use Rattle.txn_types.specs.declared.event.Event.TheVariants as event
-use Rattle.node_defs.specs.World.{IsLawfulEvent, IsSaidByFaulty, Setting}
+use Rattle.node_defs.specs.World.{Setting}
+use Rattle.node_defs.specs.LawfulEvents.{IsLawfulEvent, IsSaidByFaulty}
 
 -- in a lawful event a faulty node alone says what it likes
 lawful_is_said : (s : Setting) (e : Event) → IsLawfulEvent s e → IsSaidByFaulty s e

@@ -1,3 +1,4 @@
+-- The lemmas of this crate.
 pub mod Admitted
 pub mod LawfulEvents
 pub mod NamedItems

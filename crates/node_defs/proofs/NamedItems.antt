@@ -8,10 +8,11 @@ use Rattle.txn_types.specs.declared.block.Config.{Config}
 use Rattle.txn_types.specs.declared.stream.Piece.{Piece}
 use Rattle.txn_types.specs.declared.stream.Piece.TheVariants as piece
 use Rattle.txn_types.specs.declared.txn.Txn.{Txn}
-use Rattle.oxii_defs.specs.Lawful.{IsLawfulBody, IsLawfulConfig}
-use Rattle.oxii_defs.specs.Table.{Table, IsLawfulTxn}
-use Rattle.node_defs.specs.Admission.{AreLawfulPieces, IsLawfulPiece}
-use Rattle.node_defs.specs.World.{AreNamed, MayBeNamed, Setting, config_of_piece, named_config, named_txns, piece_at, txns_of_piece}
+use Rattle.oxii_defs.specs.Lawful.{IsLawfulBody, IsLawfulConfig, IsLawfulTxn}
+use Rattle.oxii_defs.specs.Table.{Table}
+use Rattle.node_defs.specs.LawfulItems.{AreLawfulPieces, IsLawfulPiece}
+use Rattle.node_defs.specs.World.{MayBeNamed, Setting, config_of_piece, named_config, named_txns, piece_at, txns_of_piece}
+use Rattle.node_defs.specs.LawfulEvents.{AreNamed}
 
 -- each of these items is a call: they have no configuration, and one transaction each
 pub record AreCalls (s : Setting) (items : List ℕ) : Type 0 where

@@ -1,8 +1,6 @@
 -- Admission: which requests are admitted, as which transactions, and why the others are rejected.
-use Rattle.std.specs.Prelude.{ℕ, suc, ◌==◌, Bool, true, false, ◌&&◌, not, if◌then◌else◌, List, [], ◌∷◌, length, Option, Some, None, Result, Ok, Err, nat_le, IfSome}
-use Rattle.std.specs.List.{All, list_any}
-use Rattle.txn_types.specs.Values.{IsValue}
-use Rattle.txn_types.specs.Rising.{IsRising}
+use Rattle.std.specs.Prelude.{ℕ, suc, ◌==◌, Bool, true, false, ◌&&◌, not, if◌then◌else◌, List, [], ◌∷◌, length, Option, Some, None, Result, Ok, Err, nat_le}
+use Rattle.std.specs.List.{list_any}
 use Rattle.txn_types.specs.declared.txn.Arg.{Arg}
 use Rattle.txn_types.specs.declared.txn.Arg.TheVariants as arg
 use Rattle.txn_types.specs.declared.txn.Txn.{Txn}
@@ -15,8 +13,7 @@ use Rattle.txn_types.specs.declared.stream.Piece.TheVariants as piece
 use Rattle.txn_types.specs.declared.stream.Item.{Item}
 use Rattle.txn_types.specs.declared.stream.Item.TheVariants as item
 use Rattle.oxii_defs.specs.Syntax.{Name, ParamKind, RecKind, NumKind, Formal, Op}
-use Rattle.oxii_defs.specs.Table.{App, Table, IsRecord, IsLawfulTxn}
-use Rattle.oxii_defs.specs.Lawful.{IsLawfulConfig}
+use Rattle.oxii_defs.specs.Table.{App, Table}
 use Rattle.node_defs.specs.Same.{same_list, same_number}
 
 -- names are equal by their bytes
@@ -95,36 +92,3 @@ reject_of_answer i (Err why) = record { item = i; why = why } ∷ []
 abbrev pub reject_of : Table → ℕ → Item → List Rejected
 reject_of table i (item.Ask q) = reject_of_answer i (admit table q)
 reject_of table i _ = []
-
--- WHAT A STREAM HOLDS
-
--- an argument is a record of the table, or a value
-abbrev pub IsRequestArg : Table → Arg → Type 0
-IsRequestArg table (arg.Rec r) = IsRecord table r
-IsRequestArg table (arg.Num n) = IsValue n
-
--- distinct records of the table, in rising order
-pub record IsRequestSet (table : Table) (records : List ℕ) : Type 0 where
-  pub rising : IsRising records
-  pub known : All (IsRecord table) records
-
--- a request as a document can hold it: its sets and arguments are of the table, and its names are any
-pub record IsLawfulRequest (table : Table) (q : Request) : Type 0 where
-  pub args : All (IsRequestArg table) q.args
-  pub reads : IsRequestSet table q.reads
-  pub writes : IsRequestSet table q.writes
-
--- an item as a document can hold it
-abbrev pub IsLawfulItem : Table → Item → Type 0
-IsLawfulItem table (item.Ask q) = IsLawfulRequest table q
-IsLawfulItem table item.Mark = Unit {0}
-IsLawfulItem table (item.Config c) = IsLawfulConfig table c
-
--- what an admitted item carries: a lawful transaction, or a lawful configuration
-abbrev pub IsLawfulPiece : Table → Piece → Type 0
-IsLawfulPiece table (piece.Call t) = IsLawfulTxn table t
-IsLawfulPiece table (piece.Config c) = IsLawfulConfig table c
-
--- what the items of a stream carry
-abbrev pub AreLawfulPieces : Table → List (Option Piece) → Type 0
-AreLawfulPieces table pieces = All (λ p. IfSome p (IsLawfulPiece table)) pieces

@@ -11,7 +11,6 @@ use Rattle.txn_types.specs.declared.stream.Piece.TheVariants as piece
 use Rattle.txn_types.specs.declared.stream.Item.{Item}
 use Rattle.txn_types.specs.declared.stream.Item.TheVariants as item
 use Rattle.oxii_defs.specs.Table.{Table}
-use Rattle.oxii_defs.specs.Lawful.{IsUpTo}
 use Rattle.oxii_defs.specs.BlockBytes.{txn_bytes}
 use Rattle.node_defs.specs.Admission.{piece_of, reject_of}
 
@@ -55,12 +54,6 @@ txns_in xs = flat_map (λ x. txns_in_piece x.piece) xs
 -- the bytes of its transactions together
 abbrev pub bytes_in : Table → List AdmittedItem → ℕ
 bytes_in table xs = length (flat_map (txn_bytes table) (txns_in xs))
-
--- a block's greatest count of transactions, and of their bytes together, are in their ranges
-pub record AreLawfulLimits (limits : CutLimits) : Type 0 where
-  pub txns : IsUpTo 256 limits.txns
-  pub bytes_from : 2048 ≤ limits.bytes
-  pub bytes_to : limits.bytes ≤ 1048576
 
 -- it is a transaction
 abbrev pub IsCall : AdmittedItem → Type 0

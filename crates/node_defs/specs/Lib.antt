@@ -1,6 +1,8 @@
+-- The definitions of this crate.
 pub mod Same
 pub mod Counting
 pub mod Admission
+pub mod LawfulItems
 pub mod Cutting
 pub mod Rules
 pub mod Log
@@ -9,7 +11,9 @@ pub mod Position
 pub mod Ledger
 pub mod Sent
 pub mod World
+pub mod LawfulEvents
 pub mod Serial
+pub mod Blocks
 pub mod Tame
 pub mod Text
 pub mod GraphText

@@ -1,5 +1,5 @@
 -- The serial run of a chain: its blocks, one after another, each with the outcomes of its transactions run one after another.
-use Rattle.std.specs.Prelude.{ℕ, zero, suc, ◌<◌, ◌≡◌, List, [], ◌∷◌, length, get_or, None}
+use Rattle.std.specs.Prelude.{ℕ, zero, suc, ◌<◌, ◌≡◌, List, [], ◌∷◌, length}
 use Rattle.txn_types.specs.declared.txn.Outcome.{Outcome}
 use Rattle.txn_types.specs.declared.txn.Txn.{Txn}
 use Rattle.txn_types.specs.declared.block.Block.{Block}
@@ -8,19 +8,12 @@ use Rattle.oxii_defs.specs.Outcomes.{apply}
 use Rattle.oxii_defs.specs.Lines.{Entry}
 use Rattle.node_defs.specs.Rules.{Rules}
 use Rattle.node_defs.specs.Ledger.{ledger_state}
+use Rattle.node_defs.specs.Blocks.{block_at}
 
 -- one transaction after another: the outcomes
 abbrev pub serial : Rules → State → List Txn → List Outcome
 serial rules s [] = []
 serial rules s (t ∷ rest) = rules.outcome s t ∷ serial rules (apply s t (rules.outcome s t)) rest
-
--- what stands where there is no block
-abbrev pub no_block : Block
-no_block = record { number = 0; prev = []; txns = []; config = None }
-
--- block m + 1 of a chain
-abbrev pub block_at : List Block → ℕ → Block
-block_at chain m = get_or chain m no_block
 
 -- the first m blocks with the outcomes of the serial run from the genesis state, the latest first
 abbrev pub serial_ledger : Rules → List Block → ℕ → List Entry

@@ -4,7 +4,7 @@ use Rattle.std.specs.List.{All}
 use Rattle.txn_types.specs.declared.block.Block.{Block}
 use Rattle.txn_types.specs.declared.message.Node.TheVariants.{Peer, Orderer}
 use Rattle.node_defs.specs.Rules.{Rules, in_force_behind}
-use Rattle.node_defs.specs.Serial.{block_at}
+use Rattle.node_defs.specs.Blocks.{block_at}
 use Rattle.node_defs.specs.World.{Setting, is_faulty, orderers_of, count_from}
 
 -- the first m blocks of a chain, the latest first

@@ -1,10 +1,7 @@
 -- The world: a pool of messages, an idle count and the logs of the peers, as the fold of the events.
-use Rattle.std.specs.Prelude.{ℕ, zero, suc, ◌+◌, ◌≡◌, ◌≤◌, ◌<◌, Bool, true, false, if◌then◌else◌, List, [], ◌∷◌, ◌++◌, map, length, get_or, set, Option, Some, None, unwrap_or, slice_get, replicate, sum_by, IfSome}
-use Rattle.std.specs.List.{All, list_any, flat_map, count_by}
+use Rattle.std.specs.Prelude.{ℕ, zero, suc, ◌+◌, ◌≡◌, Bool, true, false, if◌then◌else◌, List, [], ◌∷◌, ◌++◌, map, length, get_or, set, Option, Some, None, unwrap_or, slice_get, replicate}
+use Rattle.std.specs.List.{All, list_any, flat_map}
 use Rattle.std.specs.Option.{option_or}
-use Rattle.txn_types.specs.Values.{max_number, max_false}
-use Rattle.txn_types.specs.declared.txn.Outcome.{Outcome}
-use Rattle.txn_types.specs.declared.txn.Outcome.TheVariants as outcome
 use Rattle.txn_types.specs.declared.txn.Txn.{Txn}
 use Rattle.txn_types.specs.declared.block.Config.{Config}
 use Rattle.txn_types.specs.declared.block.Block.{Block}
@@ -12,23 +9,23 @@ use Rattle.txn_types.specs.declared.stream.Piece.{Piece}
 use Rattle.txn_types.specs.declared.stream.Piece.TheVariants as piece
 use Rattle.txn_types.specs.declared.message.Node.{Node}
 use Rattle.txn_types.specs.declared.message.Node.TheVariants.{Peer, Orderer}
-use Rattle.txn_types.specs.declared.message.Vote.{Vote}
 use Rattle.txn_types.specs.declared.message.Commit.{Commit}
 use Rattle.txn_types.specs.declared.message.Message.{Message}
 use Rattle.txn_types.specs.declared.message.Message.TheVariants as message
 use Rattle.txn_types.specs.declared.event.Event.{Event}
 use Rattle.txn_types.specs.declared.event.Event.TheVariants as event
+use Rattle.txn_types.specs.declared.block.Body.{Body}
+use Rattle.txn_types.specs.declared.stream.Item.{Item}
 use Rattle.oxii_defs.specs.Dependency.{graph_of}
 use Rattle.oxii_defs.specs.Chain.{no_hash, chain as agreed_chain}
 use Rattle.oxii_defs.specs.State.{State}
 use Rattle.oxii_defs.specs.Table.{Table}
-use Rattle.txn_types.specs.declared.block.Body.{Body}
-use Rattle.txn_types.specs.declared.stream.Item.{Item}
 use Rattle.node_defs.specs.Admission.{pieces_of}
 use Rattle.node_defs.specs.Same.{same_node}
 use Rattle.node_defs.specs.Rules.{Rules, rules_of}
 use Rattle.node_defs.specs.Log.{Letter, Log}
 use Rattle.node_defs.specs.Sent.{sent}
+use Rattle.node_defs.specs.Ledger.{ledger, heard}
 
 -- what stays as it is: the rules, the chain, for each item of the stream what it carries, and the faulty nodes
 pub record Setting : Type 0 where
@@ -198,65 +195,13 @@ LeadTo s w (e ∷ rest) u = (v : World) × Happens s w e v × LeadTo s v rest u
 abbrev pub IsWorld : Setting → List Event → World → Type 0
 IsWorld s events w = LeadTo s (start s) events w
 
--- LAWFUL EVENTS
-
--- a faulty node alone says what it likes: what is said is of a faulty node
-abbrev pub IsSaidByFaulty : Setting → Event → Type 0
-IsSaidByFaulty s (event.SayBlock from number prev items preds) = is_faulty s from ≡ true
-IsSaidByFaulty s (event.SayCommit from commit) = is_faulty s from ≡ true
-IsSaidByFaulty s _ = Unit {0}
+-- WHAT EVENTS AND WORLDS HOLD
 
 -- an item that may be named in a block of so many: an admitted request, or a configuration alone
 abbrev pub MayBeNamed : ℕ → Option Piece → Type 0
 MayBeNamed count None = ⊥
 MayBeNamed count (Some (piece.Call t)) = Unit {0}
 MayBeNamed count (Some (piece.Config c)) = count ≡ 1
-
--- the items of a false block: 1 to 256, admitted requests or one configuration
-pub record AreNamed (s : Setting) (items : List ℕ) : Type 0 where
-  pub some : 1 ≤ length items
-  pub few : length items ≤ 256
-  pub each : All (λ i. MayBeNamed (length items) (piece_at s i)) items
-
--- the predecessors that a false block may give so many transactions: for each of them at most 256 positions, the last of which is 255
-pub record AreSaidPreds (count : ℕ) (preds : List (List ℕ)) : Type 0 where
-  pub one_each : length preds ≡ count
-  pub few : All (λ ps. length ps ≤ 256) preds
-  pub positions : All (All (λ p. p < 256)) preds
-
--- a faulty node says a block with a number that a chain can have; a hash that it gives has 32 bytes
-pub record IsLawfulFalseBlock (s : Setting) (from : Node) (number : ℕ) (prev : Option (List ℕ)) (items : List ℕ) (preds : Option (List (List ℕ))) : Type 0 where
-  pub from_faulty : is_faulty s from ≡ true
-  pub number_from : 1 ≤ number
-  pub number_to : number ≤ max_number
-  pub hash : IfSome prev (λ h. length h ≡ 32)
-  pub named : AreNamed s items
-  pub graph : IfSome preds (AreSaidPreds (length (named_txns s items)))
-
--- an outcome that a false vote may give: it may fit no transaction, and has at most 16 entries
-abbrev pub IsSaidOutcome : Outcome → Type 0
-IsSaidOutcome (outcome.Commit entries) = length entries ≤ 16
-IsSaidOutcome (outcome.Abort why) = Unit {0}
-
--- a vote of a false COMMIT: on a position that a block can have
-pub record IsSaidVote (v : Vote) : Type 0 where
-  pub position : v.t < 256
-  pub outcome : IsSaidOutcome v.outcome
-
--- a faulty node says results of a block with a number that a chain can have
-pub record IsLawfulFalseCommit (s : Setting) (from : Node) (commit : Commit) : Type 0 where
-  pub from_faulty : is_faulty s from ≡ true
-  pub number_from : 1 ≤ commit.n
-  pub number_to : commit.n ≤ max_number
-  pub few : length commit.votes ≤ 256
-  pub votes : All IsSaidVote commit.votes
-
--- an event that a world can take: a delivery is to a peer of the table, and false messages are as above
-abbrev pub IsLawfulEvent : Setting → Event → Type 0
-IsLawfulEvent s (event.Deliver msg to) = to < peers_of s
-IsLawfulEvent s event.All = Unit {0}
-IsLawfulEvent s (event.SayBlock from number prev items preds) = IsLawfulFalseBlock s from number prev items preds
-IsLawfulEvent s (event.SayCommit from commit) = IsLawfulFalseCommit s from commit
 
 -- it is an `all`
 abbrev pub is_all : Event → Bool
@@ -279,15 +224,10 @@ abbrev pub votes_said : Event → ℕ
 votes_said (event.SayCommit from commit) = length commit.votes
 votes_said _ = 0
 
--- a schedule as a document can hold it: lawful events, and not too many of each sort
-pub record AreLawfulEvents (s : Setting) (events : List Event) : Type 0 where
-  pub each : All (IsLawfulEvent s) events
-  pub count : length events ≤ 65536
-  pub alls : count_by is_all events ≤ 8
-  pub falses : count_by is_false events ≤ max_false
-  pub items : sum_by items_named events ≤ 16384
-  pub votes : sum_by votes_said events ≤ 16384
-
 -- the log of a peer
 abbrev pub log_of : World → ℕ → Log
 log_of w p = get_or w.logs p []
+
+-- how many blocks a peer has completed
+abbrev pub completed_count : Setting → World → ℕ → ℕ
+completed_count s w p = length (ledger s.rules p (heard s.rules p (log_of w p)))

@@ -15,7 +15,7 @@ use Rattle.txn_types.specs.declared.stream.Request.{Request}
 use Rattle.txn_types.specs.declared.stream.Reject.{Reject}
 use Rattle.txn_types.specs.declared.stream.Reject.TheVariants.{UnknownApp, ClientNotAllowed, UnknownOp, ArgCount, ArgKind, SetTooLarge}
 use Rattle.oxii_defs.specs.Syntax.{Name, ParamKind, RecKind, NumKind, Formal, Op}
-use Rattle.oxii_defs.specs.WellFormed.{AllDiffer}
+use Rattle.oxii_defs.specs.NameLists.{AllDiffer}
 use Rattle.oxii_defs.specs.Table.{App, Table}
 use Rattle.oxii_defs.specs.Lawful.{IsLawfulApp, IsLawfulTable}
 use Rattle.node_defs.specs.Admission.{admit, are_kinds, first_named, is_kind, same_name, with_app, with_args, with_op, with_sets}

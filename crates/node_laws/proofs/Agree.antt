@@ -16,7 +16,8 @@ use Rattle.node_defs.specs.Log.{Letter, Log, is_good, is_other, newblock_from, n
 use Rattle.node_defs.specs.Position.{Standing, Work, agreed, ballots, is_agent, is_ready, own_outcome, ran, standing, standings}
 use Rattle.node_defs.specs.Rules.{IsLocal, Rules, in_force}
 use Rattle.node_defs.specs.Same.{same_block, same_list, same_number, same_outcome}
-use Rattle.node_defs.specs.Serial.{IsNumbered, block_at, serial_base, serial_ledger, serial_outcomes_at}
+use Rattle.node_defs.specs.Serial.{IsNumbered, serial_base, serial_ledger, serial_outcomes_at}
+use Rattle.node_defs.specs.Blocks.{block_at}
 use Rattle.node_laws.proofs.Counting.{Has, distinct_filter, distinct_senders, honest_among, keep_member}
 use Rattle.node_defs.proofs.SameLemmas.{same_block_decides, same_outcome_decides}
 use Rattle.node_laws.proofs.Few.{FewOrderers, IsTameAll, IsTameAt}

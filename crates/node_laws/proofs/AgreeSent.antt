@@ -12,7 +12,8 @@ use Rattle.node_defs.specs.Log.{Letter, Log}
 use Rattle.node_defs.specs.Position.{Standing, Work, agreed, is_ready, own_outcome, ran, standing, standings}
 use Rattle.node_defs.specs.Rules.{IsLocal, Rules, in_force}
 use Rattle.node_defs.specs.Sent.{batches, commit_of, did_run, held, is_cut, is_due, newly_ran, no_standing, run_order, sent, sent_in, sent_of, sent_upto, sent_with, vote_on}
-use Rattle.node_defs.specs.Serial.{IsNumbered, block_at, serial_base, serial_ledger, serial_outcomes_at}
+use Rattle.node_defs.specs.Serial.{IsNumbered, serial_base, serial_ledger, serial_outcomes_at}
+use Rattle.node_defs.specs.Blocks.{block_at}
 use Rattle.node_laws.proofs.Agree.{AllRight, Sound, accepted_right, block_right, ledger_right, none_differs}
 use Rattle.node_laws.proofs.Few.{IsTameAll}
 use Rattle.node_laws.proofs.Growing.{StaysOpen, ledger_grows, standings_keep, stays_open}

@@ -9,20 +9,22 @@ use Rattle.std.proofs.lemmas.Bool.{eqb-true, true≢false}
 use Rattle.std.proofs.lemmas.Option.{none-some, same_Some}
 use Rattle.known_defs.specs.Known.{no_outcome}
 use Rattle.node_defs.specs.Accepted.{accepted, tip}
-use Rattle.node_defs.specs.Ledger.{completed, heard, ledger_state}
+use Rattle.node_defs.specs.Ledger.{completed, heard, ledger_state, accepted_at}
 use Rattle.node_defs.specs.Log.{Letter, Log}
 use Rattle.node_defs.specs.Position.{Standing}
 use Rattle.node_defs.specs.Rules.{IsLocal, in_force}
 use Rattle.node_defs.specs.Sent.{no_standing, sent}
-use Rattle.node_defs.specs.Serial.{IsNumbered, block_at, serial_ledger, serial_outcomes_at}
+use Rattle.node_defs.specs.Serial.{IsNumbered, serial_ledger, serial_outcomes_at}
+use Rattle.node_defs.specs.Blocks.{block_at}
 use Rattle.node_defs.specs.Tame.{IsTame}
-use Rattle.node_defs.specs.World.{IsSaidByFaulty, IsWorld, LeadTo, Setting, World, all_from, count_from, delivered, first_pool, given_to, given_all, given_each, happens, idled, is_faulty, log_of, message_at, newblock_of, newblocks_of, orderers_of, peers_of, said_by, says, setting_of, start}
+use Rattle.node_defs.specs.World.{IsWorld, LeadTo, Setting, World, all_from, count_from, delivered, first_pool, given_to, given_all, given_each, happens, idled, is_faulty, log_of, message_at, newblock_of, newblocks_of, orderers_of, peers_of, said_by, says, setting_of, start}
+use Rattle.node_defs.specs.LawfulEvents.{IsSaidByFaulty}
 use Rattle.node_laws.proofs.Agree.{AllRight, Sound, accepted_right, ledger_right}
 use Rattle.node_laws.proofs.AgreeSent.{IsRightCommit, all_append, all_at, all_map, all_more, believed_at, hears_all, never_split, sent_right, works_right}
 use Rattle.node_laws.proofs.Few.{IsTameAll, tame_all}
 use Rattle.node_laws.proofs.Same.{rules_local}
 use Rattle.node_laws.specs.Agreement.{Agreement, IsInAgreement, IsSound, IsWithChain}
-use Rattle.node_laws.specs.Growth.{accepted_at, standings_at}
+use Rattle.node_laws.specs.Growth.{standings_at}
 use Rattle.oxii_defs.specs.State.{State}
 use Rattle.oxii_defs.specs.Table.{Table}
 use Rattle.txn_types.specs.declared.block.Block.{Block}

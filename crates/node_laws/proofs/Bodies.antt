@@ -12,10 +12,11 @@ use Rattle.txn_types.specs.declared.stream.Piece.{Piece}
 use Rattle.txn_types.specs.declared.stream.Piece.TheVariants as piece
 use Rattle.txn_types.specs.declared.stream.Reject.{Reject}
 use Rattle.txn_types.specs.declared.txn.Txn.{Txn}
-use Rattle.oxii_defs.specs.Lawful.{IsLawfulBody}
-use Rattle.oxii_defs.specs.Table.{IsLawfulTxn, Table}
-use Rattle.node_defs.specs.Admission.{IsLawfulItem, IsLawfulPiece, admit, piece_of, piece_of_answer, pieces_of}
-use Rattle.node_defs.specs.Cutting.{AdmittedItem, AreLawfulLimits, IsAlone, IsPart, admitted, admitted_with, carried_body, config_in, mark_comes, txns_in, txns_in_piece}
+use Rattle.oxii_defs.specs.Lawful.{IsLawfulBody, IsLawfulTxn}
+use Rattle.oxii_defs.specs.Table.{Table}
+use Rattle.node_defs.specs.Admission.{admit, piece_of, piece_of_answer, pieces_of}
+use Rattle.node_defs.specs.LawfulItems.{IsLawfulItem, IsLawfulPiece, AreLawfulLimits}
+use Rattle.node_defs.specs.Cutting.{AdmittedItem, IsAlone, IsPart, admitted, admitted_with, carried_body, config_in, mark_comes, txns_in, txns_in_piece}
 use Rattle.node_defs.proofs.Admitted.{admit_lawful}
 use Rattle.node_laws.proofs.Cuttings.{no_config}
 use Rattle.node_laws.specs.LawfulBodies.{LawfulBodies, LawfulPieces}

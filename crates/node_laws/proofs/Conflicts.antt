@@ -12,7 +12,8 @@ use Rattle.node_defs.specs.Serial.{serial}
 use Rattle.node_laws.proofs.Order.{length_serial, same_outcome_through, serial_at, within_push}
 use Rattle.node_laws.proofs.Same.{Within, rules_local}
 use Rattle.node_laws.specs.ConflictOrder.{ConflictOrder, KnowsRightly}
-use Rattle.oxii_defs.specs.Outcomes.{apply, outcome_in, serial_outcomes}
+use Rattle.oxii_defs.specs.Outcomes.{apply, outcome_in}
+use Rattle.oxii_defs.specs.SerialPart.{serial_outcomes}
 use Rattle.oxii_defs.specs.State.{State}
 use Rattle.oxii_defs.specs.Table.{Table}
 use Rattle.txn_types.specs.declared.txn.Outcome.{Outcome}

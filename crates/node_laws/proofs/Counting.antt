@@ -1,3 +1,4 @@
+-- What is first of each sender, and what is first to reach a count, stays so for a longer list.
 use Rattle.std.specs.Prelude.{ℕ, ◌==◌, ◌+◌, ◌<◌, ◌≤◌, Bool, true, false, ◌&&◌, cond, if◌then◌else◌, List, [], ◌∷◌, ◌++◌, map, length, Option, Some, None, count_by, filter, ◌≡◌, refl, ◌⊎◌}
 use Rattle.std.specs.List.{list_any, list_all, IsDistinct, AllByRecursion}
 use Rattle.std.specs.Option.{option_or}

@@ -8,7 +8,8 @@ use Rattle.known_defs.specs.Known.{no_txn, txn_at}
 use Rattle.node_defs.specs.Position.{is_agent}
 use Rattle.node_defs.specs.Rules.{Rules, agents_behind, in_force, in_force_behind}
 use Rattle.oxii_defs.specs.State.{contains}
-use Rattle.node_defs.specs.Serial.{block_at, serial_ledger}
+use Rattle.node_defs.specs.Serial.{serial_ledger}
+use Rattle.node_defs.specs.Blocks.{block_at}
 use Rattle.node_defs.specs.Tame.{IsTame, first_blocks}
 use Rattle.node_defs.specs.World.{Setting, count_from, is_faulty, orderers_of}
 use Rattle.oxii_defs.specs.Lines.{Entry}

@@ -1,14 +1,14 @@
 -- The growth law, for any number of further entries.
 use Rattle.std.specs.Prelude.{ℕ, ◌+◌, ◌≡◌, List, [], ◌∷◌, ◌++◌, length, Some, suc, refl}
 use Rattle.std.proofs.Common.{sym, ◌∙◌, ap, subst, arith, append_assoc}
-use Rattle.node_defs.specs.Ledger.{completed, ledger, work_on}
+use Rattle.node_defs.specs.Ledger.{completed, ledger, work_on, accepted_at}
 use Rattle.node_defs.specs.Log.{Letter, Log}
 use Rattle.node_defs.specs.Position.{Standing}
 use Rattle.node_defs.specs.Rules.{IsLocal, Rules, in_force, rules_of}
 use Rattle.node_laws.proofs.Growing.{after_keeps, ledger_grows, standings_keep, stays_open}
 use Rattle.node_laws.proofs.Same.{rules_local}
 use Rattle.node_laws.proofs.Whole.{ledger_whole}
-use Rattle.node_laws.specs.Growth.{Grew, Growth, KeepAll, Keeps, Stays, accepted_at, standings_at}
+use Rattle.node_laws.specs.Growth.{Grew, Growth, KeepAll, Keeps, Stays, standings_at}
 use Rattle.txn_types.specs.declared.block.Block.{Block}
 
 keeps_same : (x : Standing) → Keeps x x

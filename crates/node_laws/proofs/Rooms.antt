@@ -21,7 +21,8 @@ use Rattle.oxii_defs.specs.Table.{App, Table}
 use Rattle.oxii_defs.specs.WellFormed.{IsWellFormed}
 use Rattle.oxii_defs.proofs.Lengths.{txns_are_short}
 use Rattle.node_defs.specs.Admission.{admit, are_kinds, first_named, piece_of, piece_of_answer, same_name, with_app, with_args, with_op, with_sets}
-use Rattle.node_defs.specs.Cutting.{AreLawfulLimits, admitted, admitted_with, mark_comes, txns_in}
+use Rattle.node_defs.specs.Cutting.{admitted, admitted_with, mark_comes, txns_in}
+use Rattle.node_defs.specs.LawfulItems.{AreLawfulLimits}
 
 -- AN ADMITTED REQUEST
 

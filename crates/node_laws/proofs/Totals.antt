@@ -9,7 +9,7 @@ use Rattle.std.proofs.lemmas.List.{length-append}
 use Rattle.txn_types.specs.declared.message.Message.TheVariants as message
 use Rattle.node_defs.specs.Accepted.{accepted, accepted_after, tip}
 use Rattle.node_defs.specs.Counting.{first_of_each, first_to_reach}
-use Rattle.node_defs.specs.Ledger.{completed, heard, is_split, ledger_state, work_on}
+use Rattle.node_defs.specs.Ledger.{completed, heard, is_split, ledger_state, work_on, accepted_at}
 use Rattle.node_defs.specs.Log.{Letter, Log, first_newblocks, is_good, newblock_from, newblock_in}
 use Rattle.node_defs.specs.Position.{Work}
 use Rattle.node_defs.specs.Rules.{IsLocal, Rules, in_force}
@@ -19,7 +19,6 @@ use Rattle.node_laws.proofs.Batches.{batches_bound, sent_few}
 use Rattle.node_laws.proofs.Counting.{Has, keep_member}
 use Rattle.node_laws.proofs.Growing.{LedgerGrows, after_keeps, ledger_grows, stays_open}
 use Rattle.node_laws.proofs.Whole.{carried, carries}
-use Rattle.node_laws.specs.Growth.{accepted_at}
 use Rattle.node_laws.specs.OneWorld.{txns_carried, txns_carried_by}
 use Rattle.oxii_defs.specs.Lines.{Entry}
 use Rattle.txn_types.specs.declared.block.Block.{Block}

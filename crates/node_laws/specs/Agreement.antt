@@ -7,23 +7,25 @@ use Rattle.txn_types.specs.declared.message.Node.TheVariants.{Peer, Orderer}
 use Rattle.txn_types.specs.declared.message.Vote.{Vote}
 use Rattle.txn_types.specs.declared.message.Message.{Message}
 use Rattle.txn_types.specs.declared.message.Message.TheVariants as message
-use Rattle.known_defs.specs.Known.{no_outcome}
 use Rattle.txn_types.specs.declared.txn.Outcome.{Outcome}
 use Rattle.txn_types.specs.declared.block.Body.{Body}
 use Rattle.txn_types.specs.declared.stream.Item.{Item}
 use Rattle.txn_types.specs.declared.event.Event.{Event}
 use Rattle.oxii_defs.specs.State.{State}
 use Rattle.oxii_defs.specs.Table.{Table}
-use Rattle.oxii_defs.specs.Lines.{serial_part}
+use Rattle.oxii_defs.specs.SerialPart.{serial_part}
+use Rattle.known_defs.specs.Known.{no_outcome}
 use Rattle.node_defs.specs.Rules.{Rules}
 use Rattle.node_defs.specs.Log.{Letter, Log}
-use Rattle.node_defs.specs.Ledger.{ledger, heard, split, ledger_state}
+use Rattle.node_defs.specs.Ledger.{ledger, heard, split, ledger_state, accepted_at}
 use Rattle.node_defs.specs.Sent.{no_standing}
-use Rattle.node_defs.specs.Serial.{block_at, serial_outcomes_at, serial_ledger, serial_base}
-use Rattle.node_defs.specs.World.{World, Setting, setting_of, is_faulty, log_of, IsSaidByFaulty, IsWorld}
+use Rattle.node_defs.specs.Serial.{serial_outcomes_at, serial_ledger, serial_base}
+use Rattle.node_defs.specs.Blocks.{block_at}
+use Rattle.node_defs.specs.World.{World, Setting, setting_of, is_faulty, log_of, IsWorld, completed_count}
+use Rattle.node_defs.specs.LawfulEvents.{IsSaidByFaulty}
 use Rattle.node_defs.specs.Tame.{IsTame}
 use Rattle.node_defs.specs.Text.{part_of}
-use Rattle.node_laws.specs.Growth.{accepted_at, standings_at}
+use Rattle.node_laws.specs.Growth.{standings_at}
 
 -- a vote on block n is the serial outcome of a position of that block of the chain
 abbrev pub IsRight : Rules → List Block → ℕ → Vote → Type 0
@@ -66,10 +68,6 @@ Agreement = (table : Table) (genesis : State) (items : List Item) (bodies : List
     IsTame s → All (IsSaidByFaulty s) events → IsWorld s events w → IsInAgreement s w
 
 -- THE SERIAL PART
-
--- how many blocks a peer has completed
-abbrev pub completed_count : Setting → World → ℕ → ℕ
-completed_count s w p = length (ledger s.rules p (heard s.rules p (log_of w p)))
 
 -- then the lines of each peer are those of the serial run of its completed blocks
 abbrev pub SerialPart : Type 0

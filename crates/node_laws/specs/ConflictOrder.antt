@@ -1,7 +1,7 @@
 -- The conflict order law: a run along the dependencies has the outcomes of the serial run.
 use Rattle.std.specs.Prelude.{ℕ, ◌≡◌, ◌<◌, length, get_or, Some, None, slice_get}
 use Rattle.txn_types.specs.declared.txn.Outcome.{Outcome}
-use Rattle.oxii_defs.specs.Outcomes.{serial_outcomes}
+use Rattle.oxii_defs.specs.SerialPart.{serial_outcomes}
 use Rattle.board_defs.specs.Closure.{Plan, known_at, closure}
 
 -- position t of the block has the outcome o in the serial run on the whole block

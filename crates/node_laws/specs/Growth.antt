@@ -1,14 +1,13 @@
 -- The growth law: what a log gives stays so for each longer log.
-use Rattle.std.specs.Prelude.{ℕ, ◌≡◌, true, List, [], ◌∷◌, ◌++◌, length, Option, Some}
+use Rattle.std.specs.Prelude.{ℕ, ◌≡◌, true, List, [], ◌∷◌, ◌++◌, length, Some}
 use Rattle.txn_types.specs.declared.txn.Outcome.{Outcome}
 use Rattle.txn_types.specs.declared.block.Block.{Block}
 use Rattle.oxii_defs.specs.State.{State}
 use Rattle.oxii_defs.specs.Table.{Table}
 use Rattle.node_defs.specs.Rules.{Rules, rules_of, in_force}
 use Rattle.node_defs.specs.Log.{Log}
-use Rattle.node_defs.specs.Accepted.{accepted_after}
 use Rattle.node_defs.specs.Position.{Standing, standings}
-use Rattle.node_defs.specs.Ledger.{completed, ledger, work_on}
+use Rattle.node_defs.specs.Ledger.{completed, ledger, work_on, accepted_at}
 
 -- ys is xs and what came after it
 pub record Grew {A : Type 0} (xs ys : List A) : Type 0 where
@@ -27,10 +26,6 @@ KeepAll [] [] = Unit {0}
 KeepAll (x ∷ xs) (y ∷ ys) = Keeps x y × KeepAll xs ys
 KeepAll [] (y ∷ ys) = ⊥
 KeepAll (x ∷ xs) [] = ⊥
-
--- the block that is accepted behind m completed blocks
-abbrev pub accepted_at : Rules → ℕ → ℕ → Log → Option Block
-accepted_at rules me m L = accepted_after rules m (completed rules me m L) L
 
 -- how the positions of a block stand that is accepted behind m completed blocks
 abbrev pub standings_at : Rules → ℕ → ℕ → Block → Log → List Standing

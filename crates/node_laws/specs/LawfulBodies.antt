@@ -6,9 +6,11 @@ use Rattle.txn_types.specs.declared.stream.CutLimits.{CutLimits}
 use Rattle.txn_types.specs.declared.stream.Item.{Item}
 use Rattle.oxii_defs.specs.Table.{Table}
 use Rattle.oxii_defs.specs.Lawful.{IsLawfulBody}
-use Rattle.node_defs.specs.Admission.{AreLawfulPieces, IsLawfulItem, pieces_of}
-use Rattle.node_defs.specs.Cutting.{AreAgreed, AreLawfulLimits}
-use Rattle.node_defs.specs.World.{AreNamed, Setting, named_config, named_txns}
+use Rattle.node_defs.specs.Admission.{pieces_of}
+use Rattle.node_defs.specs.LawfulItems.{AreLawfulPieces, IsLawfulItem, AreLawfulLimits}
+use Rattle.node_defs.specs.Cutting.{AreAgreed}
+use Rattle.node_defs.specs.World.{Setting, named_config, named_txns}
+use Rattle.node_defs.specs.LawfulEvents.{AreNamed}
 
 -- where the limits and the items of the stream are lawful
 abbrev pub LawfulBodies : Type 0

@@ -1,3 +1,4 @@
+-- The definitions of this crate.
 pub mod Growth
 pub mod ConflictOrder
 pub mod OneCutting

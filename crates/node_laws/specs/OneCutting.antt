@@ -4,7 +4,8 @@ use Rattle.txn_types.specs.declared.stream.CutLimits.{CutLimits}
 use Rattle.txn_types.specs.declared.stream.Item.{Item}
 use Rattle.oxii_defs.specs.Table.{Table}
 use Rattle.oxii_defs.specs.Lawful.{IsLawfulTable}
-use Rattle.node_defs.specs.Cutting.{AdmittedItem, AreLawfulLimits, IsCutting, admitted}
+use Rattle.node_defs.specs.Cutting.{AdmittedItem, IsCutting, admitted}
+use Rattle.node_defs.specs.LawfulItems.{AreLawfulLimits}
 
 -- of any admitted items there are no two cuttings
 abbrev pub OneCutting : Type 0

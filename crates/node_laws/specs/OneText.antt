@@ -7,7 +7,7 @@ use Rattle.txn_types.specs.declared.event.Event.{Event}
 use Rattle.oxii_defs.specs.State.{State}
 use Rattle.oxii_defs.specs.Table.{Table}
 use Rattle.oxii_defs.specs.Lawful.{IsLawfulTable}
-use Rattle.node_defs.specs.Cutting.{AreLawfulLimits}
+use Rattle.node_defs.specs.LawfulItems.{AreLawfulLimits}
 use Rattle.node_defs.specs.Text.{IsTextOf}
 
 -- some lines are its text, and no others

@@ -4,7 +4,6 @@ use Rattle.txn_types.specs.declared.block.Block.{Block}
 use Rattle.txn_types.specs.declared.block.Body.{Body}
 use Rattle.oxii_defs.specs.Table.{Table}
 use Rattle.oxii_defs.specs.BlockBytes.{block_hash}
-use Rattle.oxii_defs.specs.Lawful.{IsLawfulBody}
 
 -- the hash that stands before block 1
 abbrev pub no_hash : List ℕ
@@ -19,7 +18,3 @@ chain_from table n prev (body ∷ rest) =
 
 abbrev pub chain : Table → List Body → List Block
 chain table bodies = chain_from table 1 no_hash bodies
-
--- a block that a chain of the table can have
-abbrev pub IsLawfulBlock : Table → Block → Type 0
-IsLawfulBlock table b = IsLawfulBody table b.txns b.config

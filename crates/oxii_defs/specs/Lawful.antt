@@ -1,22 +1,17 @@
--- Lawful tables, and what is lawful for a table.
-use Rattle.std.specs.Prelude.{◌≡◌, ◌≤◌, ◌<◌, ◌++◌, ℕ, List, [], ◌∷◌, length, map, Option, Some, None}
-use Rattle.std.specs.List.{All}
-use Rattle.std.specs.Ordering.{nat_cmp}
-use Rattle.std.specs.declared.cmp.Ordering.TheVariants.{Less}
-use Rattle.std.specs.Cmp.Lexicographic.{slice_cmp}
+-- Lawful tables, and what is lawful for a table: transactions, configurations, blocks.
+use Rattle.std.specs.Prelude.{◌≡◌, ◌≤◌, ◌<◌, ◌++◌, ℕ, List, [], length, map, Option, Some, None}
+use Rattle.std.specs.List.{All, AllByRecursion}
 use Rattle.txn_types.specs.declared.block.Config.{Config}
 use Rattle.txn_types.specs.declared.txn.Txn.{Txn}
 use Rattle.txn_types.specs.Names.{IsName}
 use Rattle.txn_types.specs.Rising.{IsRising}
-use Rattle.oxii_defs.specs.Syntax.{Name}
-use Rattle.oxii_defs.specs.WellFormed.{AllDiffer, IsWellFormed}
-use Rattle.oxii_defs.specs.Table.{App, Table, IsLawfulTxn}
-
--- the names stand in the order of their bytes, each once
-abbrev pub AreInOrder : List Name → Type 0
-AreInOrder [] = Unit {0}
-AreInOrder (x ∷ []) = Unit {0}
-AreInOrder (x ∷ y ∷ rest) = (slice_cmp nat_cmp x y ≡ Less) × AreInOrder (y ∷ rest)
+use Rattle.txn_types.specs.declared.txn.Arg.{Arg}
+use Rattle.txn_types.specs.declared.txn.Arg.TheVariants as arg
+use Rattle.txn_types.specs.declared.block.Block.{Block}
+use Rattle.oxii_defs.specs.WellFormed.{IsWellFormed, Match}
+use Rattle.oxii_defs.specs.NameLists.{AllDiffer, AreInOrder}
+use Rattle.oxii_defs.specs.Table.{App, Table, op_in}
+use Rattle.oxii_defs.specs.Syntax.{Op}
 
 -- from one on, up to a limit
 abbrev pub IsUpTo : ℕ → ℕ → Type 0
@@ -61,7 +56,27 @@ pub record IsLawfulConfig (table : Table) (config : Config) : Type 0 where
   pub app : config.app < length table.apps
   pub agents : AreAgents table config.agents config.tau
 
+abbrev pub IsRecord : Table → ℕ → Type 0
+IsRecord table r = r < length table.records
+
+abbrev pub IsKnown : Table → Arg → Type 0
+IsKnown table (arg.Rec r) = IsRecord table r
+IsKnown table (arg.Num n) = Unit {0}
+
+-- its application and operation exist, its arguments match, and its records exist
+pub record IsLawfulTxn (table : Table) (t : Txn) : Type 0 where
+  pub op : Op
+  pub named : op_in table t ≡ Some op
+  pub matched : Match op.params t.args
+  pub args : AllByRecursion (IsKnown table) t.args
+  pub reads : AllByRecursion (IsRecord table) t.reads
+  pub writes : AllByRecursion (IsRecord table) t.writes
+
 -- 1 to 256 lawful transactions and no configuration, or a lawful configuration and no transaction
 abbrev pub IsLawfulBody : Table → List Txn → Option Config → Type 0
 IsLawfulBody table txns None = IsUpTo 256 (length txns) × All (IsLawfulTxn table) txns
 IsLawfulBody table txns (Some config) = (txns ≡ []) × IsLawfulConfig table config
+
+-- a block that a chain of the table can have
+abbrev pub IsLawfulBlock : Table → Block → Type 0
+IsLawfulBlock table b = IsLawfulBody table b.txns b.config

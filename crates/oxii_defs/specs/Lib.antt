@@ -1,4 +1,6 @@
+-- The definitions of this crate.
 pub mod Syntax
+pub mod NameLists
 pub mod State
 pub mod WellFormed
 pub mod Table
@@ -12,5 +14,6 @@ pub mod Lawful
 pub mod BlockBytes
 pub mod Chain
 pub mod Lines
+pub mod SerialPart
 pub mod SerialRuns
 pub mod Transfers

@@ -12,7 +12,6 @@ use Rattle.txn_types.specs.declared.block.Config.{Config}
 use Rattle.oxii_defs.specs.Syntax.{Name}
 use Rattle.oxii_defs.specs.State.{State, value_in}
 use Rattle.oxii_defs.specs.Table.{Table}
-use Rattle.oxii_defs.specs.Outcomes.{serial_state, serial_outcomes}
 use Rattle.oxii_defs.specs.BlockBytes.{record_name, peer_name, app_name, op_name, block_hash}
 
 -- a block of a ledger, with the outcome of each of its transactions
@@ -110,18 +109,3 @@ blocks_line count = codes "blocks " ++ decimal count ++ codes "\n"
 -- how many messages there were, and how many deliveries were idle
 abbrev pub tail_lines : ℕ → ℕ → List ℕ
 tail_lines messages idle = codes "messages " ++ decimal messages ++ codes "\nidle " ++ decimal idle ++ codes "\n"
-
--- THE SERIAL RUN OF BLOCKS
-
-abbrev pub ledger_of : Table → State → List Block → List Entry
-ledger_of table s [] = []
-ledger_of table s (b ∷ rest) =
-    record { block = b; outcomes = serial_outcomes table s b.txns } ∷ ledger_of table (serial_state table s b.txns) rest
-
-abbrev pub state_after : Table → State → List Block → State
-state_after table s [] = s
-state_after table s (b ∷ rest) = state_after table (serial_state table s b.txns) rest
-
--- the part of a peer that completed these blocks: the ledger and the state of their serial run from the genesis state
-abbrev pub serial_part : Table → State → ℕ → List Block → List ℕ
-serial_part table genesis peer blocks = peer_lines table peer (ledger_of table genesis blocks) (state_after table genesis blocks)

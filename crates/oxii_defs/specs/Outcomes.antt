@@ -1,5 +1,5 @@
--- Outcome and effect, and the serial run.
-use Rattle.std.specs.Prelude.{ℕ, List, [], ◌∷◌, Option, Some, None, Ok, Err, map}
+-- Outcome and effect.
+use Rattle.std.specs.Prelude.{ℕ, List, ◌∷◌, Option, Some, None, Ok, Err, map}
 use Rattle.std.specs.FinMap as map
 use Rattle.oxii_defs.specs.Syntax.{Stmts}
 use Rattle.oxii_defs.specs.State.{State, put}
@@ -38,15 +38,3 @@ apply s t (Abort r) = s
 -- what the transaction means in the state s, by the operations of the table
 abbrev pub outcome_in : Table → State → Txn → Outcome
 outcome_in table s t = outcome (body_in table t) t s
-
-abbrev pub after_txn : Table → State → Txn → State
-after_txn table s t = apply s t (outcome_in table s t)
-
--- the serial run: the state and the outcomes of one transaction after another
-abbrev pub serial_state : Table → State → List Txn → State
-serial_state table s [] = s
-serial_state table s (t ∷ rest) = serial_state table (after_txn table s t) rest
-
-abbrev pub serial_outcomes : Table → State → List Txn → List Outcome
-serial_outcomes table s [] = []
-serial_outcomes table s (t ∷ rest) = outcome_in table s t ∷ serial_outcomes table (after_txn table s t) rest

@@ -1,9 +1,10 @@
 -- Operations that the reader of contracts can give, and transactions that fit one.
 use Rattle.std.specs.Prelude.{◌≡◌, ◌≤◌, ◌<◌, ℕ, ◌*◌, List, [], ◌∷◌, ◌++◌, length, map, Some, slice_get, Contains}
-use Rattle.oxii_defs.specs.Syntax.{Name, Expr, Num, Param, Local, Rec, Calc, Cond, Cmp, And, Or, Not, Stmt, Let, SetLocal, SetRec, Require, If, Repeat, Stmts, Done, Then, ParamKind, RecKind, NumKind, Formal, Op}
 use Rattle.txn_types.specs.declared.txn.Arg.{Arg}
 use Rattle.txn_types.specs.declared.txn.Arg.TheVariants as arg
 use Rattle.txn_types.specs.Values.{max_value, max_turns}
+use Rattle.oxii_defs.specs.Syntax.{Name, Expr, Num, Param, Local, Rec, Calc, Cond, Cmp, And, Or, Not, Stmt, Let, SetLocal, SetRec, Require, If, Repeat, Stmts, Done, Then, ParamKind, RecKind, NumKind, Formal, Op}
+use Rattle.oxii_defs.specs.NameLists.{AllDiffer}
 
 -- the parameters, the names of the visible locals, the oldest first, and the product of the enclosing repeat counts
 pub record Scope : Type 0 where
@@ -52,10 +53,6 @@ abbrev mutual
   pub AllFine : Scope → Stmts → Type 0
   AllFine scope Done = Unit {0}
   AllFine scope (Then s rest) = IsFine scope s × AllFine (scope_after scope s) rest
-
-abbrev pub AllDiffer : List Name → Type 0
-AllDiffer [] = Unit {0}
-AllDiffer (x ∷ rest) = (¬ Contains rest x) × AllDiffer rest
 
 abbrev pub start_of : Op → Scope
 start_of op = record { params = op.params; visible = []; turns = 1 }

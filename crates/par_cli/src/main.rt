@@ -1,7 +1,7 @@
 //! The program `parblock`: hands the command words, standard input and standard output to the top call.
 #![tactic(auto)]
 
-ghost use Rattle.par_top.specs.Statuses.{CanSay};
+ghost use Rattle.par_top.specs.Sayable.{CanSay};
 
 use par_io::{StdSink, StdSource};
 use par_top::{FreeGate, Status, run, status_code, status_line};

@@ -1,3 +1,4 @@
+-- The definitions of this crate.
 pub mod Causes
 pub mod Counted
 pub mod Memory

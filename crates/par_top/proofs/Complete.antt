@@ -1,5 +1,5 @@
 -- A document of the form is refused by no status.
-use Rattle.std.proofs.Common.{◌≡◌, ◌≤◌, ◌<◌, ◌⊎◌, ℕ, List, ◌++◌, length, Option, Some, None, Err, arith, refl, sym, ap, subst, ◌∙◌, inl, inr, length-append}
+use Rattle.std.proofs.Common.{◌≡◌, ◌≤◌, ◌<◌, ◌⊎◌, ℕ, List, ◌++◌, length, Option, Some, None, arith, refl, sym, ap, subst, ◌∙◌, inl, inr, length-append}
 use Rattle.std.proofs.lemmas.List.{append-nil}
 use Rattle.std.specs.Io.KnownBytes.{Consumes, IsAtEnd}
 use Rattle.par_io.specs.Causes.{Rose}
@@ -9,14 +9,18 @@ use Rattle.doc_forms.specs.declared.fault.DocFault.TheVariants as fault
 use Rattle.input_doc.specs.Inputs.{Input}
 use Rattle.doc_forms.specs.Faults.{Fault}
 use Rattle.doc_forms.specs.Check.{Fails}
-use Rattle.input_doc.specs.Reading.{reading}
-use Rattle.input_doc.specs.Means.{Means, IsFaultOf, ExactlyOne}
+use Rattle.input_doc.specs.Means.{Means}
+use Rattle.input_doc.specs.ExactlyOne.{ExactlyOne}
+use Rattle.input_doc.specs.FirstFaults.{HasFault, IsFaultOf}
 use Rattle.par_top.specs.declared.status.Status.{Status}
 use Rattle.par_top.specs.declared.status.Status.TheVariants as status
 use Rattle.par_words.specs.declared.command.Command.{Command}
 use Rattle.par_words.specs.declared.command.Command.TheVariants.{Run, Graph, Soak}
 use Rattle.par_top.specs.Commands.{IsRunText, IsGraphText}
-use Rattle.par_top.specs.Top.{Ends, HasRead, IsRefusal, IsRefusedFor, Prints, Reads, refusal, document_limit, too_long}
+use Rattle.par_top.specs.Endings.{Ends}
+use Rattle.par_top.specs.Refusals.{IsRefusal, IsRefusedFor, Reads, refusal, too_long}
+use Rattle.par_top.specs.Texts.{HasRead, Prints}
+use Rattle.par_top.specs.Headline.{document_limit}
 
 -- what was read to the end of a source that tells its bytes is all of them
 all_read : (bytes taken : List ℕ) (new : Option (List ℕ)) → Consumes (Some bytes) new taken → IsAtEnd new → taken ≡ bytes
@@ -32,7 +36,7 @@ no_fault : (bytes : List ℕ) (input : Input) (f : DocFault) → ExactlyOne byte
 no_fault bytes input fault.NotJson once means h = once.not_both input _ means h
 no_fault bytes input (fault.Field path) once means h = once.not_both input _ means h
 no_fault bytes input (fault.Limit which limit) once means h = once.not_both input _ means h
-no_fault bytes input (fault.Contract app text.OutOfMemory) once means h = h
+no_fault bytes input (fault.Contract app text.OutOfMemory) once means h = h.2
 no_fault bytes input (fault.Contract app (text.Syntax at)) once means h = once.not_both input _ means h
 no_fault bytes input (fault.Contract app (text.UnknownName at)) once means h = once.not_both input _ means h
 no_fault bytes input (fault.Contract app (text.Kind at)) once means h = once.not_both input _ means h
@@ -75,21 +79,21 @@ is_made command status.WriteFault s s' k k' old new w w' u none kept ends = absu
 
 -- bytes with a fault
 
-the_fault : (bytes : List ℕ) (told : Fault) (f : DocFault) → ExactlyOne bytes → reading bytes ≡ Err told → IsFaultOf bytes f → Fails f (refusal told)
-the_fault bytes told fault.NotJson once is h = sym is ∙ h
-the_fault bytes told (fault.Field path) once is h = sym is ∙ h
-the_fault bytes told (fault.Limit which limit) once is h = sym is ∙ h
-the_fault bytes told (fault.Contract app text.OutOfMemory) once is h = h
-the_fault bytes told (fault.Contract app (text.Syntax at)) once is h = sym is ∙ h
-the_fault bytes told (fault.Contract app (text.UnknownName at)) once is h = sym is ∙ h
-the_fault bytes told (fault.Contract app (text.Kind at)) once is h = sym is ∙ h
-the_fault bytes told (fault.Contract app (text.Limit at)) once is h = sym is ∙ h
-the_fault bytes told (fault.Contract app (text.Double at)) once is h = sym is ∙ h
-the_fault bytes told (fault.Name path) once is h = sym is ∙ h
-the_fault bytes told (fault.Double path) once is h = sym is ∙ h
+the_fault : (bytes : List ℕ) (told : Fault) (f : DocFault) → ExactlyOne bytes → HasFault bytes told → IsFaultOf bytes f → Fails f (refusal told)
+the_fault bytes told fault.NotJson once is h = ap refusal (once.one_fault told _ is h)
+the_fault bytes told (fault.Field path) once is h = ap refusal (once.one_fault told _ is h)
+the_fault bytes told (fault.Limit which limit) once is h = ap refusal (once.one_fault told _ is h)
+the_fault bytes told (fault.Contract app text.OutOfMemory) once is h = h.2
+the_fault bytes told (fault.Contract app (text.Syntax at)) once is h = ap refusal (once.one_fault told _ is h)
+the_fault bytes told (fault.Contract app (text.UnknownName at)) once is h = ap refusal (once.one_fault told _ is h)
+the_fault bytes told (fault.Contract app (text.Kind at)) once is h = ap refusal (once.one_fault told _ is h)
+the_fault bytes told (fault.Contract app (text.Limit at)) once is h = ap refusal (once.one_fault told _ is h)
+the_fault bytes told (fault.Contract app (text.Double at)) once is h = ap refusal (once.one_fault told _ is h)
+the_fault bytes told (fault.Name path) once is h = ap refusal (once.one_fault told _ is h)
+the_fault bytes told (fault.Double path) once is h = ap refusal (once.one_fault told _ is h)
 the_fault bytes told fault.OutOfMemory once is h = absurd h
 
-refused_so : (bytes : List ℕ) (new : Option (List ℕ)) (told : Fault) (f : DocFault) → ExactlyOne bytes → length bytes ≤ document_limit → reading bytes ≡ Err told → IsRefusal (Some bytes) new f → Fails f (refusal told)
+refused_so : (bytes : List ℕ) (new : Option (List ℕ)) (told : Fault) (f : DocFault) → ExactlyOne bytes → length bytes ≤ document_limit → HasFault bytes told → IsRefusal (Some bytes) new f → Fails f (refusal told)
 refused_so bytes new told f once short is (inl long) = absurd (omega (arith, no_more bytes long.1.0 new long.1.1, long.1.2))
 refused_so bytes new told f once short is (inr at) =
     the_fault bytes told f once is (subst (λ (xs : List ℕ). IsFaultOf xs f) (all_read bytes at.bytes new at.read.taken at.read.end) at.is)
@@ -104,14 +108,14 @@ of_document Graph old new lines reads printed none = none IsGraphText printed
 of_document (Soak seed txns workers) old new lines reads printed none = reads
 
 -- a document that is printed has no fault
-was_faultless : (old new : Option (List ℕ)) (bytes lines : List ℕ) (told : Fault) → ExactlyOne bytes → old ≡ Some bytes → reading bytes ≡ Err told → Reading old new lines ⊥
+was_faultless : (old new : Option (List ℕ)) (bytes lines : List ℕ) (told : Fault) → ExactlyOne bytes → old ≡ Some bytes → HasFault bytes told → Reading old new lines ⊥
 was_faultless old new bytes lines told once is fault prints read =
     let d = read.document in
     let same : d.bytes ≡ bytes = all_read bytes d.bytes new (subst (λ (o : Option (List ℕ)). Consumes o new d.bytes) is d.read.taken) d.read.end in
     once.not_both read.input told (subst (λ (xs : List ℕ). Means xs read.input) same d.means) fault
 
 pub is_faulty : (command : Command) (result : Status) (source source_new sink sink_new : ℕ) (old new written written_new : Option (List ℕ)) (unwritten : Type 0) (bytes : List ℕ) (told : Fault)
-    → Reads command → ExactlyOne bytes → old ≡ Some bytes → length bytes ≤ document_limit → reading bytes ≡ Err told
+    → Reads command → ExactlyOne bytes → old ≡ Some bytes → length bytes ≤ document_limit → HasFault bytes told
     → ¬ Rose source source_new
     → Ends command source source_new sink sink_new old new written written_new unwritten result
     → IsRefusedFor result told ⊎ (result ≡ status.OutOfMemory)

@@ -5,8 +5,10 @@ use Rattle.doc_forms.specs.declared.fault.DocFault.{DocFault}
 use Rattle.par_words.specs.declared.command.Command.{Command}
 use Rattle.par_top.specs.declared.status.Status.{Status}
 use Rattle.par_top.specs.declared.status.Status.TheVariants as status
-use Rattle.par_top.specs.Statuses.{CanSay}
-use Rattle.par_top.specs.Top.{Ends, IsHeadline, IsReadFault, IsRefusal, IsWrittenPart, Reads}
+use Rattle.par_top.specs.Sayable.{CanSay}
+use Rattle.par_top.specs.Endings.{Ends}
+use Rattle.par_top.specs.Refusals.{IsReadFault, IsRefusal, Reads}
+use Rattle.par_top.specs.Texts.{IsHeadline, IsWrittenPart}
 
 module _ (command : Command) (source source_new sink sink_new : ℕ) (old new written written_new : Option (List ℕ)) (unwritten : Type 0) (result : Status)
     (ends : Ends command source source_new sink sink_new old new written written_new unwritten result)

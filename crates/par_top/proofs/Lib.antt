@@ -1,3 +1,4 @@
+-- The lemmas of this crate.
 pub mod AgreedLemmas
 pub mod LawfulBlocks
 pub mod WorldTextLemmas

@@ -14,19 +14,23 @@ use Rattle.oxii_defs.specs.Table as meant
 use Rattle.txn_core.specs.declared.table.Table.{Table}
 use Rattle.txn_core.specs.MeantTable.{table_of}
 use Rattle.txn_core.specs.States.{state_of}
-use Rattle.node_defs.specs.Admission.{AreLawfulPieces, pieces_of}
+use Rattle.node_defs.specs.Admission.{pieces_of}
+use Rattle.node_defs.specs.LawfulItems.{AreLawfulPieces}
 use Rattle.node_defs.specs.Cutting.{rejected_from}
 use Rattle.node_defs.specs.Text.{text, IsTextOf}
-use Rattle.node_defs.specs.World.{World, setting_of, IsLawfulEvent, IsWorld, is_false, items_named, start}
+use Rattle.node_defs.specs.World.{World, setting_of, IsWorld, is_false, items_named, start}
+use Rattle.node_defs.specs.LawfulEvents.{IsLawfulEvent}
 use Rattle.node_defs.proofs.LawfulEvents.{said_by_faulty}
 use Rattle.node_laws.proofs.Bodies.{lawful_pieces}
 use Rattle.text_laws.proofs.Counts.{carry_the_stream}
 use Rattle.text_laws.proofs.SerialTexts.{tame_texts}
 use Rattle.world_laws.specs.Deliveries.{AreBursts, AreDeliveries}
 use Rattle.world_laws.specs.Worlds.{CanTake, HasBursts, KeptWorld, setting_with}
-use Rattle.input_doc.specs.Inputs.{Input, IsLawfulInput}
+use Rattle.input_doc.specs.Inputs.{Input}
+use Rattle.input_doc.specs.LawfulInputs.{IsLawfulInput}
 use Rattle.par_top.specs.Traced.{IsTraceText, setting_over, trace_lines}
-use Rattle.par_top.specs.Commands.{IsRunText, IsTame, IsSerialText}
+use Rattle.par_top.specs.Commands.{IsRunText}
+use Rattle.par_top.specs.Headline.{IsTame, IsSerialText}
 use Rattle.par_top.specs.AgreedBlocks.{AreAgreedBlocks}
 
 -- BEFORE THE FIRST EVENT

@@ -2,12 +2,9 @@
 use Rattle.std.specs.Prelude.{◌≡◌, ℕ, Bool, List, ◌++◌}
 use Rattle.node_defs.specs.Text.{IsTextOf}
 use Rattle.node_defs.specs.GraphText.{IsGraphTextOf}
-use Rattle.text_laws.specs.SerialText as serial
 use Rattle.txn_core.specs.States.{state_of}
 use Rattle.input_doc.specs.Inputs.{Input}
 use Rattle.par_top.specs.Traced.{IsTraceText}
-
--- WHAT IS PRINTED
 
 -- what `run` prints whatever its options: the text of the world of its events, over the chain of its agreed blocks
 abbrev pub IsWorldText : Input → List ℕ → Type 0
@@ -24,13 +21,3 @@ pub record IsRunText (workers : ℕ) (traced : Bool) (input : Input) (lines : Li
 -- what `graph` prints
 abbrev pub IsGraphText : Input → List ℕ → Type 0
 IsGraphText input lines = IsGraphTextOf input.table input.items input.limits lines
-
--- TAME DOCUMENTS
-
--- few enough nodes are named faulty, at each block that is agreed
-abbrev pub IsTame : Input → Type 0
-IsTame input = serial.IsTameInput input.table (state_of input.genesis) input.items input.limits input.faulty
-
--- the lines of each peer that isn't named faulty are those of the serial run of the first blocks of the chain, as many as it completed
-abbrev pub IsSerialText : Input → List ℕ → Type 0
-IsSerialText input lines = serial.HasSerialText input.table (state_of input.genesis) input.items input.limits input.faulty input.schedule lines

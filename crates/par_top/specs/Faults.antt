@@ -2,7 +2,7 @@
 use Rattle.std.specs.Prelude.{◌≡◌, ◌⊎◌, ℕ, List}
 use Rattle.doc_forms.specs.declared.fault.DocFault.{DocFault}
 use Rattle.doc_forms.specs.declared.fault.DocFault.TheVariants as doc
-use Rattle.input_doc.specs.Means.{IsFaultOf}
+use Rattle.input_doc.specs.FirstFaults.{IsFaultOf}
 
 -- a reader of the whole document answers this fault, or that memory was wanted
 abbrev pub Refuses : List ℕ → DocFault → Type 0

@@ -1,6 +1,8 @@
+-- The definitions of this crate, with those of lower crates that its clauses cite.
 pub use Rattle.oxii_defs.specs.Lines
 pub use Rattle.board_defs.specs.Trace
 pub use Rattle.node_defs.specs.Cutting
+pub use Rattle.node_defs.specs.LawfulItems
 pub use Rattle.node_defs.specs.Text
 pub use Rattle.node_defs.specs.GraphText
 pub use Rattle.text_laws.specs.SerialText
@@ -13,11 +15,17 @@ pub use Rattle.soak_input.specs.Generator
 pub use Rattle.soak_text.specs.Summary
 pub use Rattle.par_words.specs.Words
 pub use Rattle.input_doc.specs.Inputs
+pub use Rattle.input_doc.specs.LawfulInputs
 pub use Rattle.input_doc.specs.Held
 pub use Rattle.input_doc.specs.Means
+pub use Rattle.input_doc.specs.FirstFaults
 pub mod Traced
 pub mod Commands
 pub mod AgreedBlocks
 pub mod Faults
 pub mod Statuses
-pub mod Top
+pub mod Sayable
+pub mod Headline
+pub mod Texts
+pub mod Refusals
+pub mod Endings

@@ -6,7 +6,7 @@ use Rattle.oxii_defs.specs.Table.{Table}
 use Rattle.node_defs.specs.Cutting.{AreAgreed}
 use Rattle.node_defs.specs.World.{Setting, setting_of, start}
 use Rattle.txn_core.specs.States.{state_of}
-use Rattle.board_work.specs.Plans.{span_of}
+use Rattle.board_work.specs.Spans.{span_of}
 use Rattle.world_laws.specs.declared.burst.Burst.{Burst}
 use Rattle.world_laws.specs.Deliveries.{AreBursts, AreDeliveries, Delivery}
 use Rattle.report_text.specs.BurstText.{burst_lines}

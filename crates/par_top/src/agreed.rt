@@ -2,10 +2,10 @@
 
 ghost use Rattle.std.specs.Prelude.{◌≡◌, ◌≤◌, length, IfOk};
 ghost use Rattle.std.specs.List.{All};
-ghost use Rattle.oxii_defs.specs.Lawful.{IsLawfulTable};
-ghost use Rattle.oxii_defs.specs.Chain.{IsLawfulBlock};
-ghost use Rattle.node_defs.specs.Admission.{IsLawfulItem, pieces_of};
-ghost use Rattle.node_defs.specs.Cutting.{AreLawfulLimits, rejected_from};
+ghost use Rattle.oxii_defs.specs.Lawful.{IsLawfulTable, IsLawfulBlock};
+ghost use Rattle.node_defs.specs.Admission.{pieces_of};
+ghost use Rattle.node_defs.specs.LawfulItems.{IsLawfulItem, AreLawfulLimits};
+ghost use Rattle.node_defs.specs.Cutting.{rejected_from};
 ghost use Rattle.txn_core.specs.MeantTable.{table_of};
 ghost use Rattle.par_top.specs.AgreedBlocks.{AreAgreedBlocks};
 

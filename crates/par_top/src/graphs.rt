@@ -2,7 +2,7 @@
 
 ghost use Rattle.std.specs.Prelude.{◌≡◌, ◌≤◌, ◌++◌, length, OnOk};
 ghost use Rattle.std.specs.List.{All, flat_map};
-ghost use Rattle.oxii_defs.specs.Chain.{IsLawfulBlock};
+ghost use Rattle.oxii_defs.specs.Lawful.{IsLawfulBlock};
 ghost use Rattle.node_defs.specs.GraphText.{graph_block_lines, graph_text};
 ghost use Rattle.txn_core.specs.MeantTable.{table_of};
 

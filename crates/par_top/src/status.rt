@@ -1,5 +1,8 @@
+//! What a run of the program came to: its status, with its number and its line.
+
 ghost use Rattle.std.specs.Prelude.{◌≡◌, ◌++◌, decimal, IfOk, OnOk};
-ghost use Rattle.par_top.specs.Statuses.{CanBeSaid, CanSay, which_word, text_fault_word, byte_of, path_text, fault_text, line_of, code_of};
+ghost use Rattle.par_top.specs.Statuses.{which_word, text_fault_word, byte_of, path_text, fault_text, line_of, code_of};
+ghost use Rattle.par_top.specs.Sayable.{CanBeSaid, CanSay};
 
 use crate::paths::push_path;
 use crate::{DocFault, Path, Which};

@@ -2,13 +2,13 @@
 
 ghost use Rattle.std.specs.Prelude.{◌≡◌, ◌≤◌, IfOk};
 ghost use Rattle.std.specs.List.{All};
-ghost use Rattle.oxii_defs.specs.Chain.{IsLawfulBlock};
+ghost use Rattle.oxii_defs.specs.Lawful.{IsLawfulBlock};
 ghost use Rattle.node_defs.specs.Admission.{pieces_of};
 ghost use Rattle.txn_core.specs.MeantTable.{table_of};
 ghost use Rattle.txn_core.specs.States.{state_of};
 ghost use Rattle.world_laws.specs.Worlds.{HasBursts, IsWorldOf, setting_with};
 ghost use Rattle.par_top.specs.AgreedBlocks.{AreAgreedBlocks};
-ghost use Rattle.input_doc.specs.Inputs.{IsLawfulInput};
+ghost use Rattle.input_doc.specs.LawfulInputs.{IsLawfulInput};
 ghost use Rattle.input_doc.specs.Held.{input_of};
 ghost use Rattle.par_top.specs.Commands.{IsRunText, IsGraphText};
 

@@ -4,11 +4,15 @@ ghost use Rattle.std.specs.Prelude.{◌≡◌, ◌≤◌, ◌<◌, ◌⊎◌, �
 ghost use Rattle.par_io.specs.Causes.{Rose};
 ghost use Rattle.input_doc.specs.Inputs.{Input};
 ghost use Rattle.doc_forms.specs.Faults.{Fault};
-ghost use Rattle.input_doc.specs.Means.{Means, HasFault};
+ghost use Rattle.input_doc.specs.Means.{Means};
+ghost use Rattle.input_doc.specs.FirstFaults.{HasFault};
 ghost use Rattle.par_words.specs.declared.command.Command.TheVariants.{Run, Soak};
 ghost use Rattle.par_words.specs.Words.{Says, IsCommand, IsInRange};
-ghost use Rattle.par_top.specs.Statuses.{CanSay};
-ghost use Rattle.par_top.specs.Top.{Ends, OfCommand, IsHeadline, IsNoText, IsReadFault, IsSerialHeadline, IsWrittenPart, IsRefusal, IsRefusedFor, Prints, Reads, document_limit, too_long};
+ghost use Rattle.par_top.specs.Sayable.{CanSay};
+ghost use Rattle.par_top.specs.Endings.{Ends, IsNoText};
+ghost use Rattle.par_top.specs.Refusals.{IsReadFault, IsRefusal, IsRefusedFor, Reads, too_long};
+ghost use Rattle.par_top.specs.Texts.{OfCommand, IsHeadline, IsWrittenPart, Prints};
+ghost use Rattle.par_top.specs.Headline.{IsSerialHeadline, document_limit};
 
 use crate::document::read_document;
 use crate::soak::soak_summary;

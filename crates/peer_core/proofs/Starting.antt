@@ -7,9 +7,8 @@ use Rattle.txn_core.specs.MeantTable.{table_of}
 use Rattle.txn_core.specs.States as values
 use Rattle.node_defs.specs.Rules.{Rules, rules_of}
 use Rattle.node_defs.specs.Accepted.{accepted, tip}
-use Rattle.node_defs.specs.Ledger.{completed}
+use Rattle.node_defs.specs.Ledger.{completed, accepted_at}
 use Rattle.node_defs.specs.World.{count_from}
-use Rattle.node_laws.specs.Growth.{accepted_at}
 use Rattle.node_laws.proofs.Few.{counted}
 use Rattle.newblock_quorum.specs.Newblocks as newblocks
 use Rattle.newblock_quorum.specs.Entries as inbox

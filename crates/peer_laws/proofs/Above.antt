@@ -3,10 +3,9 @@ use Rattle.std.specs.Prelude.{ℕ, ◌==◌, ◌+◌, ◌-◌, ◌<◌, ◌≤�
 use Rattle.std.proofs.Common.{sym, ◌∙◌, ap, arith, ⊎_elim, zero-add}
 use Rattle.std.proofs.lemmas.Bool.{ne_eqb}
 use Rattle.node_laws.proofs.Whole.{step, grown, few_blocks}
-use Rattle.node_defs.specs.Ledger.{Halt, all_standings, completed, first_halt, halt_in, ledger, split}
+use Rattle.node_defs.specs.Ledger.{Halt, all_standings, completed, first_halt, halt_in, ledger, split, accepted_at}
 use Rattle.node_defs.specs.Log.{Log}
 use Rattle.node_defs.specs.Rules.{Rules}
-use Rattle.node_laws.specs.Growth.{accepted_at}
 use Rattle.peer_laws.specs.Turns.{force_at, work_at}
 use Rattle.txn_types.specs.declared.block.Block.{Block}
 

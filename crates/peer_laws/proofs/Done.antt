@@ -8,12 +8,11 @@ use Rattle.peer_laws.proofs.Unopened.{length_standings}
 use Rattle.peer_laws.proofs.Turn.{sent_is, did_run_is}
 use Rattle.peer_laws.proofs.Steps.{work_from}
 use Rattle.known_defs.specs.Known.{txn_at}
-use Rattle.node_defs.specs.Ledger.{agreed_outcome, all_standings, completed, completed_with, is_agreed}
+use Rattle.node_defs.specs.Ledger.{agreed_outcome, all_standings, completed, completed_with, is_agreed, accepted_at}
 use Rattle.node_defs.specs.Log.{Letter, Log}
 use Rattle.node_defs.specs.Position.{Standing, Work, is_agent}
 use Rattle.node_defs.specs.Rules.{IsLocal, Rules, in_force}
 use Rattle.node_defs.specs.Sent.{newly_ran, sent_in, sent_of, sent_upto, sent_with}
-use Rattle.node_laws.specs.Growth.{accepted_at}
 use Rattle.peer_laws.specs.Turns.{force_at, work_at}
 use Rattle.txn_types.specs.declared.block.Block.{Block}
 

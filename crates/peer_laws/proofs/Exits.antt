@@ -15,12 +15,11 @@ use Rattle.node_laws.proofs.Whole.{few_blocks, all_members, accepted_member, num
 use Rattle.peer_laws.proofs.Above.{Stuck, above_none, ledger_is, ledger_stuck, split_is, split_with, trimmed}
 use Rattle.peer_laws.proofs.Done.{nothing_sent, stood}
 use Rattle.known_defs.specs.Known.{no_outcome}
-use Rattle.node_defs.specs.Ledger.{Halt, agreed_outcome, completed, differs, first_halt, halt_at, heard, is_agreed, is_split, ledger}
+use Rattle.node_defs.specs.Ledger.{Halt, agreed_outcome, completed, differs, first_halt, halt_at, heard, is_agreed, is_split, ledger, accepted_at}
 use Rattle.node_defs.specs.Log.{Letter, Log, votes_in}
 use Rattle.node_defs.specs.Position.{Standing}
 use Rattle.node_defs.specs.Rules.{IsLocal, Rules}
 use Rattle.node_defs.specs.Sent.{sent, sent_in, sent_upto, sent_with}
-use Rattle.node_laws.specs.Growth.{accepted_at}
 use Rattle.oxii_defs.specs.Lines.{Entry}
 use Rattle.peer_laws.specs.Delivery.{Left, Midway, SendersAre, Running, Worked}
 use Rattle.peer_laws.specs.Turns.{Casts, InWork, open_at, open_with, said, votes_behind}

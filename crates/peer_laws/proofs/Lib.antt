@@ -1,3 +1,4 @@
+-- The lemmas of this crate.
 pub mod Unopened
 pub mod Turn
 pub mod Above

@@ -5,8 +5,7 @@ use Rattle.std.proofs.Common.{sym, ◌∙◌, ap, arith}
 use Rattle.node_laws.proofs.Growing.{ledger_grows, after_keeps, all_known}
 use Rattle.node_laws.proofs.Settle.{beliefs_at}
 use Rattle.node_laws.proofs.Whole.{few_blocks}
-use Rattle.node_laws.specs.Growth.{accepted_at}
-use Rattle.node_defs.specs.Ledger.{completed, heard, is_agreed, is_split, ledger, ledger_state}
+use Rattle.node_defs.specs.Ledger.{accepted_at, completed, heard, is_agreed, is_split, ledger, ledger_state}
 use Rattle.node_defs.specs.Log.{Letter, Log}
 use Rattle.node_defs.specs.Position.{Work}
 use Rattle.node_defs.specs.Rules.{IsLocal, Rules, in_force}

@@ -13,12 +13,12 @@ use Rattle.peer_laws.proofs.Unopened.{said_is, no_order, length_standings, nothi
 use Rattle.peer_laws.proofs.Turn.{ran_is, did_run_is}
 use Rattle.oxii_defs.specs.State.{contains}
 use Rattle.known_defs.specs.Known.{no_outcome, txn_at}
-use Rattle.node_defs.specs.Ledger.{all_standings, completed, ledger_state}
+use Rattle.node_defs.specs.Ledger.{all_standings, completed, ledger_state, accepted_at}
 use Rattle.node_defs.specs.Log.{Letter, Log}
 use Rattle.node_defs.specs.Position.{Standing, Work, ballots, is_agent, standing, standings}
 use Rattle.node_defs.specs.Rules.{IsLocal, Rules, in_force}
 use Rattle.node_defs.specs.Sent.{did_run, held, is_cut, newly_ran, no_standing, run_order, vote_on}
-use Rattle.node_laws.specs.Growth.{KeepAll, accepted_at}
+use Rattle.node_laws.specs.Growth.{KeepAll}
 use Rattle.oxii_defs.specs.Lines.{Entry}
 use Rattle.peer_laws.specs.Turns.{InWork, agreed_in, force_at, open_at, open_with, said, shown, shown_one, taken_up, vote_of, votes_behind, votes_with, work_at}
 use Rattle.txn_types.specs.declared.block.Block.{Block}

@@ -6,12 +6,11 @@ use Rattle.node_laws.proofs.Growing.{ledger_grows, stays_open, standings_keep, w
 use Rattle.node_laws.proofs.Settle.{beliefs_at, within_at}
 use Rattle.peer_laws.proofs.Steps.{taken_up_is}
 use Rattle.peer_laws.proofs.Work.{found_here}
-use Rattle.node_defs.specs.Ledger.{heard, is_split, ledger_state}
+use Rattle.node_defs.specs.Ledger.{heard, is_split, ledger_state, accepted_at}
 use Rattle.node_defs.specs.Log.{Letter, Log}
 use Rattle.node_defs.specs.Position.{standings}
 use Rattle.node_defs.specs.Rules.{IsLocal, Rules, in_force}
 use Rattle.node_defs.specs.Sent.{sent, sent_upto}
-use Rattle.node_laws.specs.Growth.{accepted_at}
 use Rattle.oxii_defs.specs.Lines.{Entry}
 use Rattle.peer_laws.specs.Delivery.{Midway}
 use Rattle.peer_laws.specs.Turns.{Casts, InWork, force_at, found_upto, taken_up, votes_found, work_at}

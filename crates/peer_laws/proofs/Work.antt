@@ -10,12 +10,11 @@ use Rattle.peer_laws.proofs.Turn.{found_is, foreign, ballots_are, newly_is, sent
 use Rattle.peer_laws.proofs.Steps.{votes_before, votes_outside, taken_up_is, opened_as, held_keeps, vote_is, in_order, shut_at_first, shown_is}
 use Rattle.peer_laws.proofs.Done.{stood}
 use Rattle.known_defs.specs.Known.{txn_at}
-use Rattle.node_defs.specs.Ledger.{all_standings, ledger_state}
+use Rattle.node_defs.specs.Ledger.{all_standings, ledger_state, accepted_at}
 use Rattle.node_defs.specs.Log.{Letter, Log, votes_in}
 use Rattle.node_defs.specs.Position.{Work, ballots, is_agent, standings}
 use Rattle.node_defs.specs.Rules.{IsLocal, Rules, in_force}
 use Rattle.node_defs.specs.Sent.{commit_of, held, newly_ran, run_order, sent_upto, sent_with, vote_on}
-use Rattle.node_laws.specs.Growth.{accepted_at}
 use Rattle.oxii_defs.specs.Lines.{Entry}
 use Rattle.peer_laws.specs.Delivery.{Midway, SendersAre, Worked}
 use Rattle.peer_laws.specs.Turns.{Casts, Cut, CutsMade, IsOrder, InWork, VotesPut, agreed_in, cut_of, cuts_made, force_at, found_upto, has_run, just_ran, open_with, own_at, own_vote, said, shown, taken_up, vote_of, votes_behind, votes_found, votes_with, work_at}

@@ -6,9 +6,8 @@ use Rattle.txn_types.specs.declared.message.Commit.{Commit}
 use Rattle.oxii_defs.specs.Lines.{Entry}
 use Rattle.node_defs.specs.Rules.{Rules}
 use Rattle.node_defs.specs.Log.{Letter, Log, votes_in}
-use Rattle.node_defs.specs.Ledger.{Halt, completed, ledger, is_split, split, heard}
+use Rattle.node_defs.specs.Ledger.{Halt, completed, ledger, is_split, split, heard, accepted_at}
 use Rattle.node_defs.specs.Sent.{sent, sent_upto}
-use Rattle.node_laws.specs.Growth.{accepted_at}
 use Rattle.peer_laws.specs.Turns.{Casts, InWork, said, votes_behind, open_at}
 
 -- each other peer has voted on a position where the log has a vote of it

@@ -1,3 +1,4 @@
+-- The definitions of this crate, with those of lower crates that its clauses cite.
 pub use Rattle.node_defs.specs.Rules
 pub use Rattle.node_defs.specs.Log
 pub use Rattle.node_defs.specs.Ledger

@@ -5,9 +5,8 @@ use Rattle.txn_types.specs.declared.block.Block.{Block}
 use Rattle.node_defs.specs.Rules.{Rules, in_force}
 use Rattle.node_defs.specs.Log.{Letter, Log}
 use Rattle.node_defs.specs.Position.{Work}
-use Rattle.node_defs.specs.Ledger.{completed, heard, is_split, work_on}
+use Rattle.node_defs.specs.Ledger.{completed, heard, is_split, work_on, accepted_at}
 use Rattle.node_defs.specs.Sent.{newly_ran}
-use Rattle.node_laws.specs.Growth.{accepted_at}
 
 -- of a block its number, its transactions, and the positions that first ran with an entry, in order
 pub record BlockRuns : Type 0 where

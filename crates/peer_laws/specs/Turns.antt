@@ -14,9 +14,8 @@ use Rattle.node_defs.specs.Counting.{first_of_each, first_to_reach}
 use Rattle.node_defs.specs.Rules.{Rules, in_force}
 use Rattle.node_defs.specs.Log.{Log, votes_in}
 use Rattle.node_defs.specs.Position.{Work, Standing, standings, ballots, is_agent}
-use Rattle.node_defs.specs.Ledger.{completed, work_on, all_standings}
+use Rattle.node_defs.specs.Ledger.{completed, work_on, all_standings, accepted_at}
 use Rattle.node_defs.specs.Sent.{run_order, held, is_cut, vote_on}
-use Rattle.node_laws.specs.Growth.{accepted_at}
 
 -- the votes on a position of a block, the latest first
 abbrev pub Casts : Type 0

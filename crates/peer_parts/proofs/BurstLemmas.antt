@@ -5,7 +5,7 @@ use Rattle.std.proofs.lemmas.List.Elements.{All-map}
 use Rattle.txn_types.specs.declared.txn.Outcome.{Outcome}
 use Rattle.board_defs.specs.Closure.{Plan, ran_positions, IsClosed}
 use Rattle.board_work.specs.declared.plan.Span.{Span}
-use Rattle.board_work.specs.Plans.{span_of}
+use Rattle.board_work.specs.Spans.{span_of}
 use Rattle.trace_laws.proofs.Workers.{fewer_workers}
 
 -- a plan that is closed for many workers is closed for those that its spans name

@@ -6,9 +6,10 @@ use Rattle.std.proofs.lemmas.List.{length_push, drop_more, take_more, drop_all, 
 use Rattle.txn_types.specs.declared.txn.Kind.{Kind}
 use Rattle.txn_types.specs.declared.txn.Txn.{Txn}
 use Rattle.board_defs.specs.Trace as trace
-use Rattle.board_defs.specs.Trace.{put_span, by_position, raised_span, joined_rounds, IsLawfulTrace}
+use Rattle.board_defs.specs.Trace.{IsLawfulTrace}
+use Rattle.board_defs.specs.Rounds.{put_span, by_position, raised_span, joined_rounds}
 use Rattle.board_work.specs.declared.plan.Span.{Span}
-use Rattle.board_work.specs.Plans.{span_of}
+use Rattle.board_work.specs.Spans.{span_of}
 use Rattle.trace_laws.proofs.Members.{map_has, all_of, each_of, has_left, has_right}
 use Rattle.trace_laws.proofs.Loose.{IsLoose, raise_loose}
 use Rattle.peer_parts.specs.Joining.{IsLow, IsShort, put_spans}

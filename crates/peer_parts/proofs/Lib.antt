@@ -1,3 +1,4 @@
+-- The lemmas of this crate.
 pub mod FoundLemmas
 pub mod LearnLemmas
 pub mod AdoptLemmas

@@ -11,8 +11,7 @@ use Rattle.txn_types.specs.Fitting.{Fits}
 use Rattle.txn_types.specs.declared.txn.Outcome.{Outcome}
 use Rattle.txn_types.specs.declared.txn.Txn.{Txn}
 use Rattle.oxii_defs.specs.State.{IsState}
-use Rattle.oxii_defs.specs.Table.{IsLawfulTxn}
-use Rattle.oxii_defs.specs.Lawful.{IsLawfulTable}
+use Rattle.oxii_defs.specs.Lawful.{IsLawfulTxn, IsLawfulTable}
 use Rattle.known_defs.specs.Known.{txn_at, knows_all}
 use Rattle.board_defs.specs.Closure.{Plan, is_own, known_at, can_run, run_of, comes_to, closure_upto, closure, unless_known, run_outcomes, IsKnownClosed, IsLawfulPlan}
 use Rattle.node_laws.proofs.Same.{Within}

@@ -9,7 +9,8 @@ use Rattle.txn_types.specs.declared.txn.Outcome.{Outcome}
 use Rattle.txn_types.specs.declared.txn.Txn.{Txn}
 use Rattle.known_defs.specs.Known.{txn_at, knows_all}
 use Rattle.board_defs.specs.Closure.{Plan, is_own, known_at, can_run, run_of, comes_to, closure_upto, closure, unless_known, run_outcome, with_position, ran_upto, ran_positions, IsLawfulPlan}
-use Rattle.board_defs.specs.Trace.{Span, joined_rounds, IsLawfulTrace}
+use Rattle.board_defs.specs.Trace.{Span, IsLawfulTrace}
+use Rattle.board_defs.specs.Rounds.{joined_rounds}
 use Rattle.trace_laws.proofs.Members.{Has, has_of, contains_of, has_cases, has_left, has_right, Up, of_up, up_push}
 use Rattle.trace_laws.proofs.Plain.{plain_law}
 use Rattle.trace_laws.proofs.Plans.{ran_has, has_ran, closure_at, more_law}

@@ -2,6 +2,7 @@
 use Rattle.std.specs.Prelude.{◌<◌, ◌≤◌, List, [], ◌∷◌, length}
 use Rattle.std.specs.List.{All}
 use Rattle.board_defs.specs.Trace as trace
+use Rattle.board_defs.specs.Rounds.{put_span}
 use Rattle.board_work.specs.declared.plan.Span.{Span}
 
 -- a span with stamps as of a block's run
@@ -16,4 +17,4 @@ pub record IsShort (spans : List Span) : Type 0 where
 -- each of the first spans put at its place among the second
 abbrev pub put_spans : List trace.Span → List trace.Span → List trace.Span
 put_spans [] all = all
-put_spans (s ∷ rest) all = trace.put_span s (put_spans rest all)
+put_spans (s ∷ rest) all = put_span s (put_spans rest all)

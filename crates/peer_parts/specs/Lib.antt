@@ -1,4 +1,6 @@
+-- The definitions of this crate, with those of lower crates that its clauses cite.
 pub use Rattle.board_work.specs.Plans
+pub use Rattle.board_work.specs.Spans
 pub use Rattle.peer_laws.specs.Turns
 pub mod Found
 pub mod Ready

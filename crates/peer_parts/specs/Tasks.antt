@@ -1,15 +1,14 @@
 -- One block, while it is worked on for one message.
 use Rattle.std.specs.Prelude.{ℕ, ◌≡◌, ◌<◌, not, Bool, List, [], length, map, get_or, take, Option, Some, None}
 use Rattle.txn_types.specs.declared.txn.Outcome.{Outcome}
-use Rattle.oxii_defs.specs.Lawful.{IsLawfulTable}
-use Rattle.oxii_defs.specs.Chain.{IsLawfulBlock}
+use Rattle.oxii_defs.specs.Lawful.{IsLawfulTable, IsLawfulBlock}
 use Rattle.board_defs.specs.Closure.{Plan, is_own}
 use Rattle.board_defs.specs.Trace.{IsLawfulTrace}
 use Rattle.txn_core.specs.MeantTable.{table_of}
 use Rattle.txn_core.specs.States.{state_of}
 use Rattle.txn_core.specs.Graphs.{IsGraphOf}
 use Rattle.board_work.specs.declared.plan.Span.{Span}
-use Rattle.board_work.specs.Plans.{span_of}
+use Rattle.board_work.specs.Spans.{span_of}
 use Rattle.steal_pool.specs.Fitting.{AllFitAt}
 use Rattle.peer_parts.specs.declared.rounds.Task.{Task}
 use Rattle.peer_parts.specs.Found.{given_by, HasGiven}

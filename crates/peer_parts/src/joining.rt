@@ -2,8 +2,8 @@
 
 ghost use Rattle.std.specs.Prelude.{◌≡◌, ◌<◌, ◌≤◌, ◌+◌, ◌^◌, [], ◌∷◌, length, map, OnOk};
 ghost use Rattle.std.specs.List.{All, insert};
-ghost use Rattle.board_defs.specs.Trace.{joined_rounds, put_span, raised_span};
-ghost use Rattle.board_work.specs.Plans.{span_of};
+ghost use Rattle.board_defs.specs.Rounds.{joined_rounds, put_span, raised_span};
+ghost use Rattle.board_work.specs.Spans.{span_of};
 ghost use Rattle.peer_parts.specs.Joining.{IsShort, put_spans};
 ghost use Rattle.board_work.specs.declared.plan.Span.{Span};
 

@@ -7,4 +7,3 @@ mod lines;
 mod notes;
 mod readings;
 mod rows;
-mod setting;

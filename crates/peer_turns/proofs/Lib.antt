@@ -1,3 +1,4 @@
+-- The lemmas of this crate.
 pub mod Judgements
 pub mod Relating
 pub mod Tracing

@@ -13,8 +13,7 @@ use Rattle.txn_core.specs.MeantTable.{table_of}
 use Rattle.node_defs.specs.Rules.{Rules, in_force, agents_behind, tau_behind, changed}
 use Rattle.node_defs.specs.Log.{Letter, Log}
 use Rattle.node_defs.specs.Accepted.{accepted, tip}
-use Rattle.node_defs.specs.Ledger.{completed}
-use Rattle.node_laws.specs.Growth.{accepted_at}
+use Rattle.node_defs.specs.Ledger.{completed, accepted_at}
 use Rattle.hash_ledger.specs.declared.entry.Entry.{Entry}
 use Rattle.hash_ledger.specs.Ledgers.{AreHashed, completed_of, entry_of, tip_of}
 use Rattle.hash_ledger.proofs.HashLemmas.{tip_hashed}

@@ -11,8 +11,8 @@ use Rattle.txn_types.specs.declared.message.Split.{Split}
 use Rattle.txn_types.specs.declared.txn.Outcome.{Outcome}
 use Rattle.txn_types.specs.declared.txn.Outcome.TheVariants.{Commit, Abort}
 use Rattle.txn_types.specs.declared.txn.Txn.{Txn}
-use Rattle.oxii_defs.specs.Table.{Table, IsLawfulTxn, IsRecord}
-use Rattle.oxii_defs.specs.Lawful.{IsLawfulBody}
+use Rattle.oxii_defs.specs.Table.{Table}
+use Rattle.oxii_defs.specs.Lawful.{IsLawfulTxn, IsRecord, IsLawfulBody}
 use Rattle.known_defs.specs.Known.{no_txn}
 use Rattle.txn_core.proofs.StateLemmas.{fit_length}
 use Rattle.node_defs.specs.Ledger.{Halt, differs, first_halt, halt_at}

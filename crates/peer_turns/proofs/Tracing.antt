@@ -8,7 +8,7 @@ use Rattle.txn_types.specs.declared.txn.Txn.{Txn}
 use Rattle.node_defs.specs.Rules.{Rules}
 use Rattle.board_defs.specs.Trace.{IsLawfulTrace}
 use Rattle.board_work.specs.declared.plan.Span.{Span}
-use Rattle.board_work.specs.Plans.{span_of}
+use Rattle.board_work.specs.Spans.{span_of}
 use Rattle.peer_laws.specs.Runs.{BlockRuns, listed}
 use Rattle.peer_laws.specs.Turns.{has_run, just_ran}
 use Rattle.peer_parts.specs.Owning.{IsOwn}

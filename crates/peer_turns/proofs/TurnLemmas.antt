@@ -17,8 +17,7 @@ use Rattle.node_defs.specs.Rules.{Rules, IsLocal, rules_of, in_force, in_force_b
 use Rattle.node_defs.specs.Log.{Letter, Log}
 use Rattle.node_defs.specs.Accepted.{accepted}
 use Rattle.node_defs.specs.Position.{Standing}
-use Rattle.node_defs.specs.Ledger.{Halt, heard, is_split, ledger_state, after_outcomes, first_halt, is_agreed, agreed_outcome}
-use Rattle.node_laws.specs.Growth.{accepted_at}
+use Rattle.node_defs.specs.Ledger.{Halt, heard, is_split, ledger_state, after_outcomes, first_halt, is_agreed, agreed_outcome, accepted_at}
 use Rattle.node_laws.proofs.Same.{rules_local}
 use Rattle.node_laws.proofs.Growing.{ledger_grows, after_keeps}
 use Rattle.newblock_quorum.specs.Newblocks as inbox
@@ -36,7 +35,7 @@ use Rattle.peer_laws.proofs.Done.{stood}
 use Rattle.peer_laws.proofs.Taking.{known_sound}
 use Rattle.board_defs.specs.Trace.{IsLawfulTrace}
 use Rattle.board_work.specs.declared.plan.Span.{Span}
-use Rattle.board_work.specs.Plans.{span_of}
+use Rattle.board_work.specs.Spans.{span_of}
 use Rattle.peer_parts.specs.Owning.{IsOwn}
 use Rattle.peer_parts.specs.InForce.{IsForce}
 use Rattle.peer_parts.specs.Judging.{stand_all}

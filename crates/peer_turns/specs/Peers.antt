@@ -9,8 +9,7 @@ use Rattle.txn_types.specs.declared.txn.Outcome.{Outcome}
 use Rattle.oxii_defs.specs.Table as meant
 use Rattle.txn_core.specs.declared.table.Table.{Table}
 use Rattle.txn_core.specs.MeantTable.{table_of}
-use Rattle.oxii_defs.specs.Lawful.{IsLawfulTable}
-use Rattle.oxii_defs.specs.Chain.{IsLawfulBlock}
+use Rattle.oxii_defs.specs.Lawful.{IsLawfulTable, IsLawfulBlock}
 use Rattle.oxii_defs.specs.BlockBytes.{block_hash}
 use Rattle.txn_core.specs.States.{state_of}
 use Rattle.node_defs.specs.Ledger.{Halt, after_outcomes, first_halt, is_agreed}

@@ -3,7 +3,7 @@ use Rattle.std.specs.Prelude.{ℕ, ◌≡◌, List, [], ◌∷◌, map}
 use Rattle.txn_types.specs.declared.txn.Kind.{Kind}
 use Rattle.board_defs.specs.Trace.{IsLawfulTrace}
 use Rattle.board_work.specs.declared.plan.Span.{Span}
-use Rattle.board_work.specs.Plans.{span_of}
+use Rattle.board_work.specs.Spans.{span_of}
 use Rattle.peer_laws.specs.Runs.{BlockRuns}
 use Rattle.peer_turns.specs.declared.listing.BlockSpans.{BlockSpans}
 

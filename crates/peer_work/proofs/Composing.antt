@@ -11,9 +11,8 @@ use Rattle.txn_types.specs.declared.block.Block.{Block}
 use Rattle.txn_types.specs.declared.block.Config.{Config}
 use Rattle.txn_types.specs.declared.message.Commit.{Commit}
 use Rattle.oxii_defs.specs.State.{State, contains}
-use Rattle.oxii_defs.specs.Table.{Table, App, IsLawfulTxn}
-use Rattle.oxii_defs.specs.Lawful.{IsLawfulBody}
-use Rattle.oxii_defs.specs.Chain.{IsLawfulBlock}
+use Rattle.oxii_defs.specs.Table.{Table, App}
+use Rattle.oxii_defs.specs.Lawful.{IsLawfulTxn, IsLawfulBody, IsLawfulBlock}
 use Rattle.known_defs.specs.Known.{txn_at, no_txn}
 use Rattle.node_defs.specs.Rules.{Rules, rules_of, in_force_behind}
 use Rattle.board_defs.specs.Closure.{Plan}

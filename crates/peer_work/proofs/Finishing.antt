@@ -8,7 +8,8 @@ use Rattle.txn_types.specs.declared.txn.Outcome.{Outcome}
 use Rattle.txn_types.specs.declared.txn.Txn.{Txn}
 use Rattle.oxii_defs.specs.State.{State}
 use Rattle.oxii_defs.specs.Outcomes.{apply}
-use Rattle.oxii_defs.specs.Table.{Table, IsRecord, IsLawfulTxn}
+use Rattle.oxii_defs.specs.Table.{Table}
+use Rattle.oxii_defs.specs.Lawful.{IsRecord, IsLawfulTxn}
 use Rattle.node_defs.specs.Ledger.{after_outcomes}
 use Rattle.hash_ledger.specs.Ledgers.{AllFit}
 use Rattle.steal_pool.specs.Fitting.{AllFitAt}

@@ -1,3 +1,4 @@
+-- The lemmas of this crate.
 pub mod Openings
 pub mod Composing
 pub mod Finishing

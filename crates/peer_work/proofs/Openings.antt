@@ -10,7 +10,7 @@ use Rattle.txn_types.specs.declared.txn.Txn.{Txn}
 use Rattle.txn_types.specs.declared.txn.Kind.{Kind}
 use Rattle.txn_types.specs.declared.block.Block.{Block}
 use Rattle.oxii_defs.specs.Table.{Table}
-use Rattle.oxii_defs.specs.Chain.{IsLawfulBlock}
+use Rattle.oxii_defs.specs.Lawful.{IsLawfulBlock}
 use Rattle.txn_core.specs.Graphs.{Shape, IsGraphOf}
 use Rattle.hash_ledger.specs.declared.entry.Entry.{Entry}
 use Rattle.hash_ledger.specs.Ledgers.{tip_of}

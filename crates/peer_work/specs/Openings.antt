@@ -9,7 +9,7 @@ use Rattle.vote_book.specs.Puts.{Cast, BookStandsFor, cast_on}
 use Rattle.peer_laws.specs.Turns.{found_upto, votes_found, VotesPut, Cut}
 use Rattle.peer_parts.specs.Judging.{AreAgreedBy}
 use Rattle.oxii_defs.specs.Table.{Table}
-use Rattle.oxii_defs.specs.Chain.{IsLawfulBlock}
+use Rattle.oxii_defs.specs.Lawful.{IsLawfulBlock}
 use Rattle.txn_core.specs.Graphs.{IsGraphOf}
 use Rattle.commit_batches.specs.Held.{IsFor}
 use Rattle.hash_ledger.specs.declared.entry.Entry.{Entry}
@@ -17,7 +17,7 @@ use Rattle.hash_ledger.specs.Ledgers.{tip_of}
 use Rattle.board_defs.specs.Closure.{IsKnownClosed}
 use Rattle.board_defs.specs.Trace.{IsLawfulTrace}
 use Rattle.board_work.specs.declared.plan.Span.{Span}
-use Rattle.board_work.specs.Plans.{span_of}
+use Rattle.board_work.specs.Spans.{span_of}
 use Rattle.steal_pool.specs.Fitting.{AllFitAt}
 use Rattle.peer_parts.specs.Ready.{ran_between}
 use Rattle.peer_work.specs.declared.opened.Opened.{Opened}

@@ -3,8 +3,7 @@
 ghost use Rattle.std.specs.Prelude.{◌≡◌, ◌<◌, ◌≤◌, ◌+◌, ℕ, List, [], Option, Some, None, length, replicate, IfOk, IfSome};
 ghost use Rattle.std.specs.List.{All};
 ghost use Rattle.std.specs.Option.{option_map};
-ghost use Rattle.oxii_defs.specs.Lawful.{IsLawfulTable};
-ghost use Rattle.oxii_defs.specs.Chain.{IsLawfulBlock};
+ghost use Rattle.oxii_defs.specs.Lawful.{IsLawfulTable, IsLawfulBlock};
 ghost use Rattle.txn_core.specs.MeantTable.{table_of};
 ghost use Rattle.oxii_defs.specs.State.{contains};
 ghost use Rattle.node_defs.specs.Log.{Log};

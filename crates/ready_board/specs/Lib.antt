@@ -1,2 +1,3 @@
+-- The definitions of this crate, with those of lower crates that its clauses cite.
 pub use Rattle.board_frame.specs.Frames
 pub use Rattle.board_frame.specs.Seen

@@ -8,7 +8,7 @@ use Rattle.txn_types.specs.declared.block.Block.{Block}
 use Rattle.txn_types.specs.declared.txn.Txn.{Txn}
 use Rattle.txn_types.specs.declared.txn.Outcome.{Outcome}
 use Rattle.oxii_defs.specs.Table.{Table}
-use Rattle.oxii_defs.specs.Chain.{IsLawfulBlock}
+use Rattle.oxii_defs.specs.Lawful.{IsLawfulBlock}
 use Rattle.oxii_defs.specs.Lines as lines
 use Rattle.oxii_defs.specs.Lines.{entry_lines}
 use Rattle.hash_ledger.specs.declared.entry.Entry.{Entry}

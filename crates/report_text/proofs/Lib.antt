@@ -1,3 +1,4 @@
+-- The lemmas of this crate.
 pub mod LineSteps
 pub mod Outcomes
 pub mod Entries

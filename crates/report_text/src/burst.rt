@@ -4,7 +4,7 @@ ghost use Rattle.std.specs.Prelude.{◌≡◌, ◌++◌, map, OnOk};
 ghost use Rattle.std.specs.List.{flat_map};
 ghost use Rattle.oxii_defs.specs.BlockBytes.{peer_name};
 ghost use Rattle.txn_core.specs.MeantTable.{table_of};
-ghost use Rattle.board_work.specs.Plans.{span_of};
+ghost use Rattle.board_work.specs.Spans.{span_of};
 ghost use Rattle.report_text.specs.BurstText.{span_line, burst_lines};
 
 use crate::lines::push_number;

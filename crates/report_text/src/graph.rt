@@ -2,9 +2,8 @@
 
 ghost use Rattle.std.specs.Prelude.{◌≡◌, ◌≤◌, ◌<◌, ◌++◌, ◌+◌, [], ℕ, List, Option, Some, None, length, codes, decimal, OnOk};
 ghost use Rattle.std.specs.List.{All, flat_map};
-ghost use Rattle.oxii_defs.specs.Table.{IsLawfulTxn};
+ghost use Rattle.oxii_defs.specs.Lawful.{IsLawfulTxn, IsLawfulBlock};
 ghost use Rattle.oxii_defs.specs.Dependency.{graph_of};
-ghost use Rattle.oxii_defs.specs.Chain.{IsLawfulBlock};
 ghost use Rattle.node_defs.specs.Text.{reject_word, rejected_line};
 ghost use Rattle.node_defs.specs.GraphText.{preds_text, after_line, after_lines, graph_block_lines};
 ghost use Rattle.txn_core.specs.MeantTable.{table_of};

@@ -2,9 +2,7 @@
 
 ghost use Rattle.std.specs.Prelude.{◌≡◌, ◌≤◌, ◌<◌, ◌++◌, ◌+◌, ◌^◌, [], ◌∷◌, ℕ, Option, Some, None, List, length, codes, decimal, OnOk};
 ghost use Rattle.std.specs.List.{All, AllByRecursion, flat_map};
-ghost use Rattle.oxii_defs.specs.Table.{IsLawfulTxn, IsRecord};
-ghost use Rattle.oxii_defs.specs.Lawful.{IsLawfulConfig};
-ghost use Rattle.oxii_defs.specs.Chain.{IsLawfulBlock};
+ghost use Rattle.oxii_defs.specs.Lawful.{IsLawfulTxn, IsRecord, IsLawfulConfig, IsLawfulBlock};
 ghost use Rattle.oxii_defs.specs.BlockBytes.{peer_name};
 ghost use Rattle.oxii_defs.specs.Lines.{reason_word, entry_text, entry_part, entries_text, outcome_text, block_line, txn_line, txn_lines, config_line, body_lines, entry_lines, peer_line, blocks_line, tail_lines};
 ghost use Rattle.node_defs.specs.Text.{written_text};

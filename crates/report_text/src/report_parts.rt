@@ -6,7 +6,7 @@ ghost use Rattle.oxii_defs.specs.Lines.{peer_lines, blocks_line, tail_lines};
 ghost use Rattle.node_defs.specs.Text.{rejected_line, halted_line};
 ghost use Rattle.txn_core.specs.MeantTable.{table_of};
 ghost use Rattle.txn_core.specs.States.{state_of};
-ghost use Rattle.board_work.specs.Plans.{span_of};
+ghost use Rattle.board_work.specs.Spans.{span_of};
 ghost use Rattle.hash_ledger.specs.Halts.{halted_of, IsLawfulSplit};
 ghost use Rattle.hash_ledger.specs.Ledgers.{entries_of, IsLawfulEntry};
 ghost use Rattle.report_text.specs.BurstText.{burst_lines};

@@ -4,8 +4,7 @@ ghost use Rattle.std.specs.Prelude.{◌≡◌, ◌≤◌, ◌<◌, ◌++◌, [],
 ghost use Rattle.std.specs.List.{All};
 ghost use Rattle.oxii_defs.specs.Dependency.{graph_of};
 ghost use Rattle.oxii_defs.specs.BlockBytes.{block_hash};
-ghost use Rattle.oxii_defs.specs.Chain.{IsLawfulBlock};
-ghost use Rattle.oxii_defs.specs.Lawful.{IsLawfulTable};
+ghost use Rattle.oxii_defs.specs.Lawful.{IsLawfulBlock, IsLawfulTable};
 ghost use Rattle.txn_core.specs.MeantTable.{table_of};
 ghost use Rattle.txn_core.specs.States.{state_of};
 ghost use Rattle.node_defs.specs.Same.{same_node};

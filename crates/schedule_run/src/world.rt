@@ -3,13 +3,12 @@
 ghost use Rattle.std.specs.Prelude.{ℕ, ◌≡◌, ◌<◌, ◌≤◌, ◌↔◌, List, [], ◌∷◌, length, true, is_some, count_by, sum_by, get_or, None, IfOk, IfSome, IsNone};
 ghost use Rattle.std.specs.List.{All};
 ghost use Rattle.oxii_defs.specs.State.{State};
-ghost use Rattle.oxii_defs.specs.Chain.{IsLawfulBlock};
-ghost use Rattle.oxii_defs.specs.Lawful.{IsLawfulTable};
+ghost use Rattle.oxii_defs.specs.Lawful.{IsLawfulBlock, IsLawfulTable};
 ghost use Rattle.txn_types.specs.declared.event.Event as happening;
 ghost use Rattle.txn_types.specs.declared.message.Node.TheVariants as node;
 ghost use Rattle.txn_core.specs.MeantTable.{table_of};
 ghost use Rattle.txn_core.specs.States.{state_of};
-ghost use Rattle.node_defs.specs.Admission.{AreLawfulPieces};
+ghost use Rattle.node_defs.specs.LawfulItems.{AreLawfulPieces};
 ghost use Rattle.node_defs.specs.World as world;
 ghost use Rattle.node_defs.specs.World.{IsWorld, Setting, log_of, start};
 ghost use Rattle.node_laws.specs.Named.{is_named};

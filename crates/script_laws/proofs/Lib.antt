@@ -1,3 +1,4 @@
+-- The lemmas of this crate.
 pub mod States
 pub mod Sound
 pub mod Starts

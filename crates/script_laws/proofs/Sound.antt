@@ -12,7 +12,7 @@ use Rattle.txn_types.specs.declared.txn.Outcome.{Outcome}
 use Rattle.txn_types.specs.declared.txn.Outcome.TheVariants.{Abort, Commit}
 use Rattle.txn_types.specs.declared.txn.Txn.{Txn}
 use Rattle.oxii_defs.specs.State.{contains}
-use Rattle.oxii_defs.specs.Table.{IsRecord}
+use Rattle.oxii_defs.specs.Lawful.{IsRecord}
 use Rattle.oxii_defs.specs.Dependency.{depends, meets}
 use Rattle.known_defs.specs.Known.{txn_at, no_txn, knows_all}
 use Rattle.board_defs.specs.Closure.{Plan, IsLawfulPlan, known_at, is_own, can_run, run_of, comes_to, closure_upto}

@@ -1,3 +1,4 @@
+-- The lemmas of this crate.
 pub mod StreamSteps
 pub mod PayMeant
 pub mod MadeLawful

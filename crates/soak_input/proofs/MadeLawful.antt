@@ -18,11 +18,12 @@ use Rattle.txn_types.specs.declared.block.Body.{Body}
 use Rattle.txn_types.specs.declared.event.Event.TheVariants as event
 use Rattle.oxii_defs.specs.State.{State}
 use Rattle.oxii_defs.specs.Syntax.{Op}
-use Rattle.oxii_defs.specs.Table.{App, IsRecord}
-use Rattle.oxii_defs.specs.WellFormed.{AllDiffer}
-use Rattle.oxii_defs.specs.Lawful.{AreInOrder, IsLawfulApp, IsLawfulTable}
-use Rattle.node_defs.specs.World.{AreLawfulEvents, IsLawfulEvent, setting_of}
-use Rattle.node_defs.specs.Admission.{IsLawfulItem, IsLawfulRequest, IsRequestArg, IsRequestSet}
+use Rattle.oxii_defs.specs.Table.{App}
+use Rattle.oxii_defs.specs.Lawful.{IsRecord, IsLawfulApp, IsLawfulTable}
+use Rattle.oxii_defs.specs.NameLists.{AllDiffer, AreInOrder}
+use Rattle.node_defs.specs.World.{setting_of}
+use Rattle.node_defs.specs.LawfulEvents.{AreLawfulEvents, IsLawfulEvent}
+use Rattle.node_defs.specs.LawfulItems.{IsLawfulItem, IsLawfulRequest, IsRequestArg, IsRequestSet}
 use Rattle.txn_core.specs.Checked.{all_differ}
 use Rattle.txn_core.proofs.CheckLemmas.{differ_decides}
 use Rattle.contract_text.specs.Laws.{AreLawfulOps}
@@ -30,7 +31,7 @@ use Rattle.contract_text.proofs.Accepted.{accepted_lawful}
 use Rattle.doc_forms.specs.Forms.{is_name, is_name_byte}
 use Rattle.doc_forms.proofs.NameTests.{Decides-name}
 use Rattle.doc_stream.specs.StreamMeaning.{is_config, is_request}
-use Rattle.input_doc.specs.Inputs.{IsLawfulInput, IsNodeOf}
+use Rattle.input_doc.specs.LawfulInputs.{IsLawfulInput, IsNodeOf}
 use Rattle.input_doc.proofs.PiecesFew.{few_configs, few_txns}
 use Rattle.soak_input.specs.Laws.{SoakInputsAreLawful}
 use Rattle.soak_input.specs.Generator.{app_name, app_of, apps_of, drawn_behind, input_with, next_draw, pair_set, pay_text, payment, record_name, stream_behind, table_of}

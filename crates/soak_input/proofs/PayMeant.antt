@@ -9,7 +9,8 @@ use Rattle.contract_text.specs.declared.faults.Contract.{Contract}
 use Rattle.contract_text.specs.declared.faults.TextFault.{TextFault}
 use Rattle.contract_text.specs.declared.faults.TextFault.TheVariants as fault
 use Rattle.contract_text.specs.TextMeaning.{IsContract}
-use Rattle.contract_text.specs.Verdict.{verdict, accepted, GivesVerdict}
+use Rattle.contract_text.specs.TextFaults.{accepted}
+use Rattle.contract_text.specs.Verdict.{verdict, GivesVerdict}
 use Rattle.contract_text.proofs.Judged.{contract_of, one_contract}
 use Rattle.oxii_defs.specs.Syntax.{Op}
 use Rattle.soak_input.specs.Generator.{pay_text}

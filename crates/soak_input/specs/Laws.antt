@@ -2,7 +2,8 @@
 use Rattle.std.specs.Prelude.{◌≡◌, ◌≤◌, ◌↔◌, ℕ, List, [], ◌∷◌, codes}
 use Rattle.oxii_defs.specs.Syntax.{Op, Sub, Add, Param, Rec, Calc, Ge, Cmp, Require, SetRec, Done, Then, RecKind, NumKind}
 use Rattle.contract_text.specs.TextMeaning.{IsContract}
-use Rattle.input_doc.specs.Inputs.{Input, IsLawfulInput}
+use Rattle.input_doc.specs.Inputs.{Input}
+use Rattle.input_doc.specs.LawfulInputs.{IsLawfulInput}
 use Rattle.soak_input.specs.Generator.{pay_text, IsSoakInput}
 
 -- `require from>=n;from=from-n;to=to+n;`, where `from` is parameter 0, `to` parameter 1 and `n` parameter 2

@@ -2,7 +2,7 @@
 
 ghost use Rattle.std.specs.Prelude.{◌≡◌, ◌≤◌, [], ◌∷◌, IfOk};
 ghost use Rattle.txn_types.specs.declared.event.Event.TheVariants as event;
-ghost use Rattle.input_doc.specs.Inputs.{IsLawfulInput};
+ghost use Rattle.input_doc.specs.LawfulInputs.{IsLawfulInput};
 ghost use Rattle.input_doc.specs.Held.{input_of};
 ghost use Rattle.soak_input.specs.Generator.{IsSoakInput};
 

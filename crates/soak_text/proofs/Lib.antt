@@ -1,3 +1,4 @@
+-- The lemmas of this crate.
 pub mod Counts
 pub mod Pairs
 pub mod Totals

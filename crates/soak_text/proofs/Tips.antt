@@ -7,7 +7,7 @@ use Rattle.txn_types.specs.declared.block.Block.{Block}
 use Rattle.oxii_defs.specs.State.{State}
 use Rattle.oxii_defs.specs.Table.{Table}
 use Rattle.oxii_defs.specs.BlockBytes.{block_hash}
-use Rattle.oxii_defs.specs.Chain.{IsLawfulBlock}
+use Rattle.oxii_defs.specs.Lawful.{IsLawfulBlock}
 use Rattle.oxii_defs.specs.Lines as lines
 use Rattle.node_defs.specs.Accepted.{tip}
 use Rattle.node_defs.specs.Rules.{rules_of}

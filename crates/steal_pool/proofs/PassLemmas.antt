@@ -10,7 +10,7 @@ use native.Mathlib.Decide.{ℕ_discrete}
 use Rattle.board_core.specs.Counts.{times}
 use Rattle.board_core.proofs.Totals.{hit_same, hit_is, times-append}
 use Rattle.board_work.specs.declared.plan.Span.{Span}
-use Rattle.board_work.specs.Plans.{span_of}
+use Rattle.board_work.specs.Spans.{span_of}
 use Rattle.board_work.specs.PassStates.{Home, PassState, split_state, new_state, HasTried, joined_state}
 use Rattle.steal_pool.specs.Passes.{AreSplit, IsIdle}
 

@@ -2,8 +2,8 @@
 ghost use Rattle.std.specs.Prelude.{◌≡◌, ◌<◌, ◌≤◌, ℕ, length, take, map, slice_index};
 ghost use Rattle.txn_types.specs.Values.{max_value};
 ghost use Rattle.oxii_defs.specs.State.{State, value_in};
-ghost use Rattle.oxii_defs.specs.Lawful.{IsLawfulTable};
-ghost use Rattle.oxii_defs.specs.Table.{IsLawfulTxn, Table as Meant};
+ghost use Rattle.oxii_defs.specs.Lawful.{IsLawfulTable, IsLawfulTxn};
+ghost use Rattle.oxii_defs.specs.Table.{Table as Meant};
 ghost use Rattle.oxii_defs.specs.Outcomes.{outcome_in};
 
 use txn_core::{Scratch, Table, op_named, run_txn};

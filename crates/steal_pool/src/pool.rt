@@ -4,7 +4,8 @@ ghost use Rattle.std.specs.List.{count_by};
 ghost use Rattle.txn_types.specs.declared.txn.Kind.TheVariants.{Full};
 ghost use Rattle.board_defs.specs.Closure.{can_run, ran_positions, run_outcomes};
 ghost use Rattle.board_work.specs.PassStates.{IsFirst};
-ghost use Rattle.board_work.specs.Plans.{IsRunnable, plan_of, span_of};
+ghost use Rattle.board_work.specs.Plans.{IsRunnable, plan_of};
+ghost use Rattle.board_work.specs.Spans.{span_of};
 ghost use Rattle.steal_pool.specs.Fitting.{AllFitAt};
 ghost use Rattle.steal_pool.specs.Tasks.{IsTask};
 

@@ -4,14 +4,14 @@ use Rattle.std.proofs.Common.{refl, ap, ◌∙◌}
 use Rattle.std.specs.List.{flat_map}
 use Rattle.txn_types.specs.declared.message.Node.TheVariants.{Peer}
 use Rattle.oxii_defs.specs.Chain.{chain}
-use Rattle.oxii_defs.specs.Lines.{serial_part, blocks_line, tail_lines}
+use Rattle.oxii_defs.specs.Lines.{blocks_line, tail_lines}
+use Rattle.oxii_defs.specs.SerialPart.{serial_part}
 use Rattle.oxii_defs.proofs.Serially.{serial_parts}
 use Rattle.node_defs.specs.Cutting.{rejected_from}
 use Rattle.node_defs.specs.Text.{rejected_line, parts_of, part_of}
-use Rattle.node_defs.specs.World.{World, Setting, setting_of, is_faulty, log_of, count_from}
-use Rattle.node_laws.specs.Agreement.{completed_count}
+use Rattle.node_defs.specs.World.{World, Setting, setting_of, is_faulty, log_of, count_from, completed_count}
 use Rattle.node_laws.proofs.SerialPart.{serial_part_law}
-use Rattle.text_laws.specs.SerialText.{TameTextsAreSerial}
+use Rattle.text_laws.specs.Laws.{TameTextsAreSerial}
 
 -- the parts of a world are those of the peers that aren't faulty
 parts_are : (s : Setting) (w : World) (part : ℕ → List ℕ) (peers : List ℕ) → ((p : ℕ) → part_of s p (log_of w p) ≡ part p) → parts_of s w peers ≡ flat_map part (filter (λ p. not (is_faulty s (Peer p))) peers)

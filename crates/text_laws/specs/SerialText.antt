@@ -1,6 +1,6 @@
 -- Where an input is tame, its text is that of serial runs.
 use Rattle.std.specs.Prelude.{ℕ, ◌≡◌, ◌≤◌, ◌<◌, ◌++◌, false, not, List, filter, length, take}
-use Rattle.std.specs.List.{All, flat_map}
+use Rattle.std.specs.List.{flat_map}
 use Rattle.txn_types.specs.declared.block.Body.{Body}
 use Rattle.txn_types.specs.declared.stream.CutLimits.{CutLimits}
 use Rattle.txn_types.specs.declared.stream.Item.{Item}
@@ -14,9 +14,8 @@ use Rattle.oxii_defs.specs.Lines.{blocks_line, tail_lines}
 use Rattle.oxii_defs.specs.SerialRuns.{IsSerialPart}
 use Rattle.node_defs.specs.Cutting.{AreAgreed, rejected_from}
 use Rattle.node_defs.specs.Tame.{IsTame}
-use Rattle.node_defs.specs.Text.{rejected_line, IsTextOf}
-use Rattle.node_defs.specs.World.{World, setting_of, IsWorld, IsSaidByFaulty, count_from}
-use Rattle.node_laws.specs.Agreement.{completed_count}
+use Rattle.node_defs.specs.Text.{rejected_line}
+use Rattle.node_defs.specs.World.{World, setting_of, IsWorld, count_from, completed_count}
 use Rattle.node_laws.specs.Named.{is_named}
 
 -- few enough nodes are faulty, at each block that orderers agree on
@@ -50,11 +49,3 @@ pub record AreCompleted (table : Table) (genesis : State) (items : List Item) (l
 abbrev pub HasSerialText : Table → State → List Item → CutLimits → List Node → List Event → List ℕ → Type 0
 HasSerialText table genesis items limits faulty events lines =
     (completed : ℕ → ℕ) × AreCompleted table genesis items limits faulty events completed × IsSerialText table genesis items limits faulty completed lines
-
--- where an input is tame and faulty nodes alone say what they like, its text is one of serial runs
-abbrev pub TameTextsAreSerial : Type 0
-TameTextsAreSerial = (table : Table) (genesis : State) (items : List Item) (limits : CutLimits) (faulty : List Node) (events : List Event) (lines : List ℕ) →
-    IsTameInput table genesis items limits faulty →
-    ((bodies : List Body) → All (IsSaidByFaulty (setting_of table genesis items bodies faulty)) events) →
-    IsTextOf table genesis items limits faulty events lines →
-    HasSerialText table genesis items limits faulty events lines

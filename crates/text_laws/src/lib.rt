@@ -2,7 +2,7 @@
 #![tactic(auto)]
 
 ghost use Rattle.text_laws.specs.AgreedCounts.{AgreedBlocksCarryTheStream};
-ghost use Rattle.text_laws.specs.SerialText.{TameTextsAreSerial};
+ghost use Rattle.text_laws.specs.Laws.{TameTextsAreSerial};
 
 /// The agreed blocks have as many transactions as the stream has admitted, and no more configurations.
 pub fn agreed_blocks_carry_the_stream()

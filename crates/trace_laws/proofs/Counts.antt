@@ -5,7 +5,8 @@ use Rattle.std.proofs.lemmas.Bool.{eqb-true}
 use Rattle.std.proofs.lemmas.Bool.Decides.{nat_tests}
 use Rattle.std.proofs.lemmas.List.Sums.{sum_by-append, count_by-le-length}
 use Rattle.node_defs.proofs.CountingLemmas.{count_by-cons}
-use Rattle.board_defs.specs.Trace.{Span, stamps, raised_span}
+use Rattle.board_defs.specs.Trace.{Span, stamps}
+use Rattle.board_defs.specs.Rounds.{raised_span}
 use Rattle.trace_laws.proofs.Members.{Has}
 
 abbrev pub times : ℕ → List ℕ → ℕ

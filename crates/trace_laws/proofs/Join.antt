@@ -6,7 +6,8 @@ use Rattle.std.proofs.Common.{sym, ◌∙◌, ap, subst, inl, inr, arith, ⊎_el
 use Rattle.std.proofs.lemmas.List.{length-map, map-append}
 use Rattle.txn_types.specs.declared.txn.Kind.{Kind}
 use Rattle.txn_types.specs.declared.txn.Txn.{Txn}
-use Rattle.board_defs.specs.Trace.{Span, stamps, raised_span, in_turn, by_position, IsLawfulTrace}
+use Rattle.board_defs.specs.Trace.{Span, stamps, IsLawfulTrace}
+use Rattle.board_defs.specs.Rounds.{raised_span, in_turn, by_position}
 use Rattle.trace_laws.specs.Laws.{Round, IsLater, JoinedRoundsAreLawful}
 use Rattle.trace_laws.proofs.Members.{Has, has_of, contains_of, each_of, all_of, has_cases, map_has, up_of, Once, once_up, once_append, pairs_head, pairs_tail, same_rising}
 use Rattle.trace_laws.proofs.Counts.{times}

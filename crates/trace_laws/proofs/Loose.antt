@@ -7,7 +7,8 @@ use Rattle.txn_types.specs.declared.txn.Kind.{Kind}
 use Rattle.txn_types.specs.declared.txn.Txn.{Txn}
 use Rattle.oxii_defs.specs.Dependency.{depends}
 use Rattle.known_defs.specs.Known.{txn_at}
-use Rattle.board_defs.specs.Trace.{Span, stamps, raised_span, IsLawfulTrace}
+use Rattle.board_defs.specs.Trace.{Span, stamps, IsLawfulTrace}
+use Rattle.board_defs.specs.Rounds.{raised_span}
 use Rattle.trace_laws.proofs.Members.{Has, has_cases, has_map, contains_of, each_of}
 use Rattle.trace_laws.proofs.Counts.{times, absent, all_pass, fill, length_stamps, stamps_append, stamps_have, stamp_of, times_raised}
 

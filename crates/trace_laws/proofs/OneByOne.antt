@@ -2,7 +2,8 @@
 use Rattle.std.specs.Prelude.{ℕ, ◌≡◌, ◌+◌, ◌*◌, List, [], ◌∷◌, ◌++◌, length, map, refl}
 use Rattle.std.proofs.Common.{sym, ◌∙◌, ap, subst, inl, inr, arith, ⊎_elim}
 use Rattle.std.proofs.lemmas.List.{length-map, length-append, map-append, append-nil}
-use Rattle.board_defs.specs.Trace.{Span, raised_span, in_turn, by_position, IsLawfulTrace}
+use Rattle.board_defs.specs.Trace.{Span, IsLawfulTrace}
+use Rattle.board_defs.specs.Rounds.{raised_span, in_turn, by_position}
 use Rattle.trace_laws.specs.Laws.{JoinedOneByOne}
 use Rattle.trace_laws.proofs.Members.{Has, each_of, has_cases, has_left, has_right, map_has, Up, Once, once_up, once_append}
 use Rattle.trace_laws.proofs.Join.{all_spans, Lawful, places_in_turn, once_all}

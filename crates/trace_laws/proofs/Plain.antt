@@ -4,7 +4,8 @@ use Rattle.std.proofs.Common.{◌∙◌, ap, subst, arith, ⊎_elim}
 use Rattle.std.proofs.lemmas.Bool.Decides.{nat_tests}
 use Rattle.txn_types.specs.declared.txn.Kind.{Kind}
 use Rattle.txn_types.specs.declared.txn.Txn.{Txn}
-use Rattle.board_defs.specs.Trace.{Span, plain_spans}
+use Rattle.board_defs.specs.Trace.{Span}
+use Rattle.board_defs.specs.Rounds.{plain_spans}
 use Rattle.trace_laws.specs.Laws.{PlainSpansAreLawful}
 use Rattle.trace_laws.proofs.Members.{Has, Up, up_of, map_has}
 use Rattle.trace_laws.proofs.Counts.{times_span}

@@ -8,7 +8,8 @@ use Rattle.txn_types.specs.declared.txn.Outcome.{Outcome}
 use Rattle.oxii_defs.specs.Dependency.{depends}
 use Rattle.known_defs.specs.Known.{txn_at, knows_all}
 use Rattle.board_defs.specs.Closure.{Plan, known_at, closure, ran_positions, run_outcomes, IsClosed, IsKnownClosed, IsLawfulPlan}
-use Rattle.board_defs.specs.Trace.{Span, joined_rounds, plain_spans, IsLawfulTrace}
+use Rattle.board_defs.specs.Trace.{Span, IsLawfulTrace}
+use Rattle.board_defs.specs.Rounds.{joined_rounds, plain_spans}
 
 -- one round: the positions that ran, and their spans
 pub record Round : Type 0 where

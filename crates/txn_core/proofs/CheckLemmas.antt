@@ -5,11 +5,12 @@ use Rattle.std.specs.Cmp.Lexicographic.{pointwise, bytes_decides}
 use Rattle.std.proofs.lemmas.List.{get_or_default}
 use Rattle.std.proofs.lemmas.Bool.Decides.{Decides-and, Decides-not, Decides-like, Decides-ltb, Decides-eqb, Decides-by_or, nat_tests}
 use Rattle.oxii_defs.specs.Syntax.{Name, Expr, Num, Param, Local, Rec, Calc, Cond, Cmp, And, Or, Not, Stmt, Let, SetLocal, SetRec, Require, If, Repeat, Stmts, Done, Then, ParamKind, RecKind, NumKind, Formal, Op}
-use Rattle.oxii_defs.specs.WellFormed.{Scope, HasKind, IsFineExpr, IsFineCond, IsNew, scope_after, IsFine, AllFine, AllDiffer, IsWellFormed, Match}
+use Rattle.oxii_defs.specs.WellFormed.{Scope, HasKind, IsFineExpr, IsFineCond, IsNew, scope_after, IsFine, AllFine, IsWellFormed, Match}
+use Rattle.oxii_defs.specs.NameLists.{AllDiffer, is_named}
 use Rattle.txn_types.specs.declared.txn.Arg.{Arg}
 use Rattle.txn_types.specs.declared.txn.Arg.TheVariants as arg
 use Rattle.txn_types.specs.Values.{max_value, max_turns}
-use Rattle.txn_core.specs.Checked.{is_named, same_kind, has_kind, fine_expr, fine_cond, is_new, visible_after, fine, all_fine, all_differ, match_all}
+use Rattle.txn_core.specs.Checked.{same_kind, has_kind, fine_expr, fine_cond, is_new, visible_after, fine, all_fine, all_differ, match_all}
 
 abbrev scope_of : List Formal → ℕ → List Name → Scope
 scope_of params turns visible = record { params = params; visible = visible; turns = turns }

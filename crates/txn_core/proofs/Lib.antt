@@ -1,3 +1,4 @@
+-- The lemmas of this crate.
 pub mod WrittenLemmas
 pub mod RunLemmas
 pub mod InputLemmas

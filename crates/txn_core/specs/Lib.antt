@@ -1,3 +1,4 @@
+-- The definitions of this crate, with those of lower crates that its clauses cite.
 pub mod Frames
 pub mod Meant
 pub mod MeantCalls
@@ -11,9 +12,11 @@ pub mod Graphs
 pub mod Touching
 pub use Rattle.oxii_defs.specs.State
 pub use Rattle.oxii_defs.specs.WellFormed
+pub use Rattle.oxii_defs.specs.NameLists
 pub use Rattle.oxii_defs.specs.Table
 pub use Rattle.oxii_defs.specs.Lawful
 pub use Rattle.oxii_defs.specs.Outcomes
+pub use Rattle.oxii_defs.specs.SerialPart
 pub use Rattle.oxii_defs.specs.Dependency
 pub use Rattle.oxii_defs.specs.BlockBytes
 pub use Rattle.txn_types.specs.Fitting

@@ -4,7 +4,8 @@ ghost use Rattle.std.specs.Prelude.{◌≡◌, ◌↔◌, ◌*◌, ◌&&◌, nat
 ghost use Rattle.oxii_defs.specs.WellFormed.{IsWellFormed, Match};
 ghost use Rattle.txn_types.specs.Values.{max_turns};
 ghost use Rattle.txn_core.specs.Meant.{op_of, expr_of, cond_of, stmt_of, stmts_of, formal_of, kind_of};
-ghost use Rattle.txn_core.specs.Checked.{is_named, has_kind, fine_expr, fine_cond, is_new, visible_after, fine, all_fine, all_differ, match_all};
+ghost use Rattle.txn_core.specs.Checked.{has_kind, fine_expr, fine_cond, is_new, visible_after, fine, all_fine, all_differ, match_all};
+ghost use Rattle.oxii_defs.specs.NameLists.{is_named};
 
 use crate::{Cond, Expr, Op, Param, ParamKind, Stmt};
 use std::alloc::Global;

@@ -2,7 +2,7 @@
 
 ghost use Rattle.std.specs.Prelude.{◌≡◌, ◌+◌, ◌≤◌, length};
 ghost use Rattle.std.specs.List.{All};
-ghost use Rattle.oxii_defs.specs.Table.{IsLawfulTxn, IsKnown, IsRecord};
+ghost use Rattle.oxii_defs.specs.Lawful.{IsLawfulTxn, IsKnown, IsRecord};
 ghost use Rattle.oxii_defs.specs.BlockBytes.{name_bytes, arg_bytes, args_bytes, records_bytes, txn_bytes};
 ghost use Rattle.txn_core.specs.MeantTable.{table_of};
 

@@ -1,7 +1,8 @@
 // What a document says of records, nodes and applications.
 
 ghost use Rattle.std.specs.Prelude.{◌≡◌, Some};
-ghost use Rattle.oxii_defs.specs.Table.{op_in, IsLawfulTxn};
+ghost use Rattle.oxii_defs.specs.Table.{op_in};
+ghost use Rattle.oxii_defs.specs.Lawful.{IsLawfulTxn};
 ghost use Rattle.txn_core.specs.Meant.{op_of};
 ghost use Rattle.txn_core.specs.MeantTable.{table_of};
 

@@ -5,7 +5,8 @@ use Rattle.std.proofs.lemmas.List.Elements.{All-cons, All-nil}
 use Rattle.txn_types.specs.declared.txn.Txn.{Txn}
 use Rattle.txn_types.specs.Values.{max_value}
 use Rattle.oxii_defs.specs.Syntax.{Then, SetRec, Param, Done}
-use Rattle.oxii_defs.specs.Table.{Table, IsLawfulTxn}
+use Rattle.oxii_defs.specs.Table.{Table}
+use Rattle.oxii_defs.specs.Lawful.{IsLawfulTxn}
 use Rattle.txn_core.specs.declared.syntax.Expr.TheVariants as expr
 use Rattle.txn_core.specs.declared.syntax.Stmt.TheVariants as stmt
 use Rattle.txn_core.specs.Meant.{expr_of, stmt_of, stmts_of}

@@ -1,3 +1,4 @@
+-- The definitions of this crate.
 pub mod Rising
 pub mod Names
 pub mod Values

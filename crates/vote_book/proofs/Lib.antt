@@ -1,3 +1,4 @@
+-- The lemmas of this crate.
 mod SpotLemmas
 mod PutLemmas
 mod Tallies

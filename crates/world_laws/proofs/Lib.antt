@@ -1,3 +1,4 @@
+-- The lemmas of this crate.
 pub mod Bursting
 pub mod Reaching
 pub mod Giving

@@ -14,7 +14,8 @@ use Rattle.oxii_defs.specs.State.{State}
 use Rattle.txn_core.specs.declared.table.Table.{Table}
 use Rattle.txn_core.specs.MeantTable.{table_of}
 use Rattle.node_defs.specs.Log.{Letter}
-use Rattle.node_defs.specs.World.{IsLawfulEvent, LeadTo, Setting, World, happens, is_false, items_named, says, start}
+use Rattle.node_defs.specs.World.{LeadTo, Setting, World, happens, is_false, items_named, says, start}
+use Rattle.node_defs.specs.LawfulEvents.{IsLawfulEvent}
 use Rattle.node_laws.specs.OneWorld.{txns_carried_by}
 use Rattle.node_laws.proofs.AgreeSent.{all_append}
 use Rattle.node_laws.proofs.Run.{leads_more, same_world}

@@ -18,9 +18,10 @@ use Rattle.oxii_defs.specs.Table as meant
 use Rattle.oxii_defs.specs.BlockBytes.{block_hash}
 use Rattle.txn_core.specs.declared.table.Table.{Table}
 use Rattle.txn_core.specs.MeantTable.{table_of}
-use Rattle.node_defs.specs.Admission.{AreLawfulPieces}
+use Rattle.node_defs.specs.LawfulItems.{AreLawfulPieces}
 use Rattle.node_defs.specs.Rules.{Rules, rules_of}
-use Rattle.node_defs.specs.World.{AreNamed, Setting, config_of_piece, hash_before, named_config, said_block, said_newblock, says, txns_of_piece}
+use Rattle.node_defs.specs.World.{Setting, config_of_piece, hash_before, named_config, said_block, said_newblock, says, txns_of_piece}
+use Rattle.node_defs.specs.LawfulEvents.{AreNamed}
 use Rattle.node_defs.proofs.NamedItems.{named_items_are_lawful}
 use Rattle.world_laws.specs.Sayings.{block_with, config_named, hash_behind, newblock_with, txns_named}
 use Rattle.world_laws.specs.Worlds.{CanTake, Follows, IsSettingOf, KeptWorld, setting_with, with_said}

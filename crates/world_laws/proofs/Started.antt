@@ -12,12 +12,11 @@ use Rattle.txn_types.specs.declared.message.Node.{Node}
 use Rattle.txn_types.specs.declared.message.Node.TheVariants.{Orderer}
 use Rattle.oxii_defs.specs.State.{State}
 use Rattle.oxii_defs.specs.Table as meant
-use Rattle.oxii_defs.specs.Chain.{IsLawfulBlock}
+use Rattle.oxii_defs.specs.Lawful.{IsLawfulBlock, IsLawfulBody, IsLawfulTable}
 use Rattle.oxii_defs.specs.BlockBytes.{block_hash}
-use Rattle.oxii_defs.specs.Lawful.{IsLawfulBody, IsLawfulTable}
 use Rattle.txn_core.specs.declared.table.Table.{Table}
 use Rattle.txn_core.specs.MeantTable.{table_of}
-use Rattle.node_defs.specs.Admission.{AreLawfulPieces}
+use Rattle.node_defs.specs.LawfulItems.{AreLawfulPieces}
 use Rattle.node_defs.specs.Log.{Letter, Log}
 use Rattle.node_defs.specs.World.{Setting, count_from, first_pool, is_faulty, newblock_of, newblocks_of, orderers_of, peers_of, start}
 use Rattle.node_defs.proofs.CountingLemmas.{count_by-cons}

@@ -1,3 +1,4 @@
+-- The definitions of this crate.
 pub mod Deliveries
 pub mod Shown
 pub mod Starts

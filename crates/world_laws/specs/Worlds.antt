@@ -14,10 +14,11 @@ use Rattle.oxii_defs.specs.BlockBytes.{block_hash}
 use Rattle.oxii_defs.specs.Lawful.{IsLawfulTable}
 use Rattle.txn_core.specs.declared.table.Table.{Table}
 use Rattle.txn_core.specs.MeantTable.{table_of}
-use Rattle.node_defs.specs.Admission.{AreLawfulPieces}
+use Rattle.node_defs.specs.LawfulItems.{AreLawfulPieces}
 use Rattle.node_defs.specs.Rules.{rules_of}
 use Rattle.node_defs.specs.Log.{Letter}
-use Rattle.node_defs.specs.World.{World, Setting, IsLawfulEvent, IsWorld, is_false, items_named, start}
+use Rattle.node_defs.specs.World.{World, Setting, IsWorld, is_false, items_named, start}
+use Rattle.node_defs.specs.LawfulEvents.{IsLawfulEvent}
 use Rattle.peer_turns.specs.Peers.{KeptPeer}
 use Rattle.world_laws.specs.declared.burst.Burst.{Burst}
 use Rattle.world_laws.specs.Deliveries.{AreBursts, AreDeliveries, Delivery}

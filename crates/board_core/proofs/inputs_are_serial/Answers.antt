@@ -1,3 +1,4 @@
+-- What the check of `inputs_are_serial` leaves to show.
 use Rattle.board_core.proofs.CellSteps.{finds_serial}
 use Rattle.board_core.proofs.inputs_are_serial.Goals as goal
 

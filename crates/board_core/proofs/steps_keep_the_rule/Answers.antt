@@ -1,3 +1,4 @@
+-- What the check of `steps_keep_the_rule` leaves to show.
 use Rattle.board_core.proofs.Bases.{merges, splits}
 use Rattle.board_core.proofs.CellSteps.{loads_part, loads_value, publishes, writes}
 use Rattle.board_core.proofs.Steps.{counts_down, loads, stamps_begin, stamps_finish, swaps}

@@ -9,15 +9,14 @@ ghost use Rattle.board_work.specs.Plans.{IsRunnable, plan_of};
 ghost use Rattle.board_rows.specs.Settings.{IsSet, plan_with};
 
 use crate::tests::task::Task;
-use block_cutter::{Cut, cut};
 use board_words::no_outcomes;
 use board_work::{Own, Plan};
 use dep_graph::build;
-use input_doc::read_input;
+use row_settings::setting_of;
 use std::alloc::Global;
 use std::test::Fail;
 use txn_core::{Graph, Scratch, Table, op_named, run_txn};
-use txn_types::{Block, Known, OutOfMemory, Outcome, Txns, Values};
+use txn_types::{Block, Bodies, Known, OutOfMemory, Outcome, Txns, Values};
 
 /// What a plan is made of.
 #[derive(Drop)]
@@ -69,12 +68,12 @@ fn all_own(alloc: Global, size: usize) -> Result<Own, OutOfMemory>
 }
 
 // The transactions of the last block, where it is one of transactions.
-fn last_txns(table: &Table, mut cut: Cut) -> Option<Txns>
-    requires { All (λ b. IsLawfulBody (table_of table.now) b.txns b.config) cut.bodies }
+fn last_txns(table: &Table, mut bodies: Bodies) -> Option<Txns>
+    requires { All (λ b. IsLawfulBody (table_of table.now) b.txns b.config) bodies }
     ensures { IfSome result (λ txns. IsLawfulBody (table_of table.now) txns None) }
 {
     let _ = table;
-    let body = cut.bodies.pop()?;
+    let body = bodies.pop()?;
     match body.config {
         None => Some(body.txns),
         Some(_) => None,
@@ -85,11 +84,8 @@ fn last_txns(table: &Table, mut cut: Cut) -> Option<Txns>
 pub fn set_up(alloc: Global, text: &str) -> Result<Setting, Fail>
     ensures { IfOk result (λ s. IsSet s.table s.base s.block s.graph s.known s.own) }
 {
-    let Ok(input) = read_input(alloc, text.as_bytes()) else {
-        return Err(Fail::new("a fault"));
-    };
-    let cut = cut(alloc, &input.table, input.items.as_slice(), &input.limits)?;
-    let Some(txns) = last_txns(&input.table, cut) else {
+    let document = setting_of(alloc, text)?;
+    let Some(txns) = last_txns(&document.table, document.bodies) else {
         return Err(Fail::new("no block of transactions"));
     };
     let block = Block {
@@ -99,12 +95,12 @@ pub fn set_up(alloc: Global, text: &str) -> Result<Setting, Fail>
         config: None,
     };
     let size = block.txns.len();
-    let graph = build(alloc, &block, input.table.kind)?;
+    let graph = build(alloc, &block, document.table.kind)?;
     let known = no_outcomes(alloc, size)?;
     let own = all_own(alloc, size)?;
     Ok(Setting {
-        table: input.table,
-        base: input.genesis,
+        table: document.table,
+        base: document.genesis,
         block,
         graph,
         known,

@@ -1,8 +1,7 @@
 // Plans of a block, and their runs.
 
 ghost use Rattle.std.specs.Prelude.{◌≡◌, ◌<◌, ◌≤◌, ℕ, length, IsTrue};
-ghost use Rattle.oxii_defs.specs.Lawful.{IsLawfulTable};
-ghost use Rattle.oxii_defs.specs.Chain.{IsLawfulBlock};
+ghost use Rattle.oxii_defs.specs.Lawful.{IsLawfulTable, IsLawfulBlock};
 ghost use Rattle.txn_core.specs.MeantTable.{table_of};
 ghost use Rattle.txn_core.specs.Graphs.{IsGraphOf};
 ghost use Rattle.burst_rows.specs.Standing.{CanStand};

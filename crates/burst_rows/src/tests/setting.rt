@@ -1,12 +1,10 @@
 // The first block of a document.
 
 ghost use Rattle.std.specs.Prelude.{◌≡◌, length, IfOk};
-ghost use Rattle.oxii_defs.specs.Lawful.{IsLawfulTable};
-ghost use Rattle.oxii_defs.specs.Chain.{IsLawfulBlock};
+ghost use Rattle.oxii_defs.specs.Lawful.{IsLawfulTable, IsLawfulBlock};
 ghost use Rattle.txn_core.specs.MeantTable.{table_of};
 
-use block_cutter::cut;
-use input_doc::{Input, read_input};
+use row_settings::setting_of;
 use std::alloc::Global;
 use std::test::Fail;
 use txn_core::Table;
@@ -29,19 +27,8 @@ pub fn set_up(alloc: Global, text: &str) -> Result<Setting, Fail>
     ensures base { IfOk result (λ setting. length setting.base ≡ length setting.table.records) }
     ensures block { IfOk result (λ setting. IsLawfulBlock (table_of setting.table) setting.block) }
 {
-    let document = text.replace(alloc, "'", "\"")?;
-    let Ok(input) = read_input(alloc, document.as_bytes()) else {
-        return Err("no document".into());
-    };
-    let Input {
-        table,
-        genesis,
-        items,
-        limits,
-        ..
-    } = input;
-    let cut = cut(alloc, &table, items.as_slice(), &limits)?;
-    let body = cut.bodies.as_slice().first().ok_or("no block")?;
+    let document = setting_of(alloc, text)?;
+    let body = document.bodies.as_slice().first().ok_or("no block")?;
     let block = Block {
         number: NUMBER,
         prev: [0; 32],
@@ -49,8 +36,8 @@ pub fn set_up(alloc: Global, text: &str) -> Result<Setting, Fail>
         config: body.config.copy(alloc)?,
     };
     Ok(Setting {
-        table,
-        base: genesis,
+        table: document.table,
+        base: document.genesis,
         block,
     })
 }

@@ -3,7 +3,7 @@
 ghost use Rattle.std.specs.Prelude.{◌≡◌, ◌≤◌, ◌<◌, [], ◌∷◌, length, IfOk, IfSome};
 ghost use Rattle.std.specs.List.{All};
 ghost use Rattle.oxii_defs.specs.Lawful.{IsLawfulTable, IsLawfulConfig};
-ghost use Rattle.node_defs.specs.Admission.{IsRequestArg, IsRequestSet, IsLawfulRequest, IsLawfulItem};
+ghost use Rattle.node_defs.specs.LawfulItems.{IsRequestArg, IsRequestSet, IsLawfulRequest, IsLawfulItem};
 ghost use Rattle.txn_core.specs.MeantTable.{table_of};
 
 use block_cutter::{Cut, cut};

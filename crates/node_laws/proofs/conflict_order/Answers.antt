@@ -1,3 +1,4 @@
+-- What the check of `conflict_order` leaves to show.
 use Rattle.node_laws.proofs.Conflicts.{conflict_order as conflict_order_law}
 use Rattle.node_laws.proofs.conflict_order.Goals as goal
 

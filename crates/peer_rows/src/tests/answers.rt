@@ -7,8 +7,8 @@ ghost use Rattle.txn_core.specs.MeantTable.{table_of};
 
 use super::letters::letter;
 use super::lines::{push_answer, push_peer};
-use super::setting::{Setting, setting_of};
 use peer_core::Peer;
+use row_settings::{Setting, setting_of};
 use std::alloc::Global;
 use std::test::Fail;
 use std::thread::Threads;

@@ -6,13 +6,12 @@
 
 ghost use Rattle.std.specs.Prelude.{◌≡◌, IfOk};
 ghost use Rattle.std.specs.List.{All};
-ghost use Rattle.oxii_defs.specs.Lawful.{IsLawfulBody};
-ghost use Rattle.oxii_defs.specs.Chain.{IsLawfulBlock};
+ghost use Rattle.oxii_defs.specs.Lawful.{IsLawfulBody, IsLawfulBlock};
 ghost use Rattle.txn_core.specs.MeantTable.{table_of};
 ghost use Rattle.peer_turns.specs.Peers.{IsLawfulMessage};
 
-use super::setting::Setting;
 use dep_graph::build;
+use row_settings::Setting;
 use std::alloc::Global;
 use std::test::Fail;
 use txn_types::{

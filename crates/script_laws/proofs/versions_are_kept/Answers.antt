@@ -1,3 +1,4 @@
+-- What the check of `versions_are_kept` leaves to show.
 use Rattle.script_laws.proofs.VersionsKept.{versions_kept}
 use Rattle.script_laws.proofs.versions_are_kept.Goals as goal
 

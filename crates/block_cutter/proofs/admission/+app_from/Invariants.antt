@@ -1,3 +1,4 @@
+-- What each turn of the loops of `+app_from` keeps.
 use Rattle.std.proofs.Common.{length}
 use Rattle.block_cutter.proofs.admission.+app_from.Given as goal
 

@@ -1,3 +1,4 @@
+-- What each turn of the loops of `+are_kinds` keeps.
 use Rattle.std.proofs.Common.{length}
 use Rattle.block_cutter.proofs.admission.+are_kinds.Given as goal
 

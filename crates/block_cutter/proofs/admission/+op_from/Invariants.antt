@@ -1,3 +1,4 @@
+-- What each turn of the loops of `+op_from` keeps.
 use Rattle.std.proofs.Common.{length}
 use Rattle.block_cutter.proofs.admission.+op_from.Given as goal
 

@@ -1,8 +1,9 @@
+-- What the check of `admit` leaves to show.
 use Rattle.std.proofs.Common.{◌≡◌, length, Some, Result, IfOk, arith, sym, ap, subst}
 use Rattle.std.proofs.lemmas.List.{length-map}
 use Rattle.txn_types.specs.declared.txn.Txn.{Txn}
 use Rattle.txn_types.specs.declared.stream.Reject.{Reject}
-use Rattle.oxii_defs.specs.Table.{IsLawfulTxn}
+use Rattle.oxii_defs.specs.Lawful.{IsLawfulTxn}
 use Rattle.node_defs.specs.Admission.{admit, first_named}
 use Rattle.node_defs.proofs.Admitted.{admit_lawful}
 use Rattle.txn_core.specs.Meant.{op_of, formal_of}

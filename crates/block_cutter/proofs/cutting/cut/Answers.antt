@@ -1,3 +1,4 @@
+-- What the check of `cut` leaves to show.
 use Rattle.std.proofs.Common.{◌≡◌, false, ◌+◌, List, [], ◌∷◌, ◌++◌, drop, sym, ap, ◌∙◌, subst, arith}
 use Rattle.std.specs.List.{All}
 use Rattle.std.proofs.lemmas.List.{drop_more, drop_all}

@@ -1,3 +1,4 @@
+-- What each turn of the loops of `cut` keeps.
 use Rattle.std.proofs.Common.{◌≡◌, ◌<◌, ◌++◌, length, drop}
 use Rattle.node_defs.specs.Admission.{pieces_of}
 use Rattle.node_defs.specs.Cutting.{admitted, rejected_from}

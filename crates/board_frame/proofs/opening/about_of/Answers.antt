@@ -1,3 +1,4 @@
+-- What the check of `about_of` leaves to show.
 use Rattle.txn_core.specs.MeantTable.{table_of}
 use Rattle.txn_core.specs.States.{state_of}
 use Rattle.board_frame.proofs.opening.about_of.Goals as goal

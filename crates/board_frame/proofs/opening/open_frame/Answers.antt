@@ -1,3 +1,4 @@
+-- What the check of `open_frame` leaves to show.
 use Rattle.std.proofs.Common.{◌≡◌, ◌≤◌, ◌∙◌, false, None, refl, sym, ap, subst, length, replicate, arith, ℕ, List, []}
 use Rattle.std.proofs.lemmas.List.{length-replicate}
 use Rattle.atomic_table.specs.Table.{opening}

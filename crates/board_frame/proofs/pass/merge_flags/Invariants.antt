@@ -1,3 +1,4 @@
+-- What each turn of the loops of `merge_flags` keeps.
 use Rattle.std.proofs.Common.{◌≡◌, ◌<◌, ◌≤◌, ◌||◌, ℕ, false, length, slice_index_or}
 use Rattle.board_frame.proofs.pass.merge_flags.Given as goal
 

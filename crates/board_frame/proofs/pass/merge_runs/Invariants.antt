@@ -1,3 +1,4 @@
+-- What each turn of the loops of `merge_runs` keeps.
 use Rattle.std.proofs.Common.{◌≡◌, ◌<◌, ◌≤◌, ℕ, None, length, slice_index_or, cond}
 use Rattle.std.specs.Prelude.{is_some}
 use Rattle.board_frame.proofs.pass.merge_runs.Given as goal

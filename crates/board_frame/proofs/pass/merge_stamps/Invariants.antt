@@ -1,3 +1,4 @@
+-- What each turn of the loops of `merge_stamps` keeps.
 use Rattle.std.proofs.Common.{◌≡◌, ◌<◌, ◌≤◌, ℕ, cond, eqb, length, get_or}
 use Rattle.board_frame.proofs.pass.merge_stamps.Given as goal
 

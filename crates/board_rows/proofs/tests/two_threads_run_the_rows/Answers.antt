@@ -1,3 +1,4 @@
+-- What the check of `two_threads_run_the_rows` leaves to show.
 use denote.Param.Send.{IsSync, sendable}
 use denote.Param.SendFields.{declared_sync}
 use Rattle.growing_list.proofs.growing.GrowingList.TheSendSync as growing-sync

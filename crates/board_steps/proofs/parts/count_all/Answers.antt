@@ -1,3 +1,4 @@
+-- What the check of `count_all` leaves to show.
 use Rattle.std.proofs.Common.{◌<◌, ◌∙◌, sym, subst, get_or, arith}
 use Rattle.board_core.specs.declared.view.View.{View}
 use Rattle.board_core.specs.Counts.{times_first}

@@ -1,3 +1,4 @@
+-- What each turn of the loops of `count_all` keeps.
 use Rattle.std.proofs.Common.{◌≡◌, ◌≤◌, length, take}
 use Rattle.board_core.specs.Parts.{Counts}
 use Rattle.board_core.specs.Passes.{AreFlags}

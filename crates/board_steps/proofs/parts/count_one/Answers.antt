@@ -1,3 +1,4 @@
+-- What the check of `count_one` leaves to show.
 use Rattle.std.proofs.Common.{ap, arith}
 use Rattle.board_core.proofs.PassFits.{counts_duty}
 use Rattle.board_steps.proofs.parts.count_one.Goals as goal

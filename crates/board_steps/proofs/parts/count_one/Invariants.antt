@@ -1,3 +1,4 @@
+-- What each turn of the loops of `count_one` keeps.
 use Rattle.board_steps.proofs.parts.count_one.Given as goal
 
 abbrev pub ghosts-count_down : goal.ghosts-count_down

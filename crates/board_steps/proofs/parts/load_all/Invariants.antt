@@ -1,3 +1,4 @@
+-- What each turn of the loops of `load_all` keeps.
 use Rattle.std.proofs.Common.{◌≡◌, ◌<◌, ℕ, get_or}
 use Rattle.board_work.specs.Scripts.{script}
 use Rattle.board_steps.specs.Abouts.{told}

@@ -1,3 +1,4 @@
+-- What each turn of the loops of `publish_all` keeps.
 use Rattle.std.proofs.Common.{◌≡◌}
 use Rattle.board_core.specs.Parts.{Published}
 use Rattle.board_steps.proofs.parts.publish_all.Given as goal

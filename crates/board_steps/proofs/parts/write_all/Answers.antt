@@ -1,3 +1,4 @@
+-- What the check of `write_all` leaves to show.
 use Rattle.std.proofs.Common.{◌≡◌, ◌∙◌, ap, sym, Some}
 use Rattle.txn_types.specs.declared.txn.Outcome.TheVariants.{Commit}
 use Rattle.board_steps.specs.Abouts.{told}

@@ -1,3 +1,4 @@
+-- What each turn of the loops of `write_entries` keeps.
 use Rattle.std.proofs.Common.{◌≡◌}
 use Rattle.board_core.specs.Parts.{Wrote}
 use Rattle.board_steps.proofs.parts.write_entries.Given as goal

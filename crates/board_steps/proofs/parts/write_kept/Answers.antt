@@ -1,3 +1,4 @@
+-- What the check of `write_kept` leaves to show.
 use Rattle.std.proofs.Common.{◌≡◌, ◌∙◌, ℕ, subst, Some, None}
 use Rattle.board_core.specs.Script.{Gives}
 use Rattle.board_steps.specs.Abouts.{told}

@@ -1,3 +1,4 @@
+-- What the check of `load_need` leaves to show.
 use Rattle.std.proofs.Common.{arith, ◌≡◌, subst}
 use Rattle.board_steps.specs.Abouts.{scripted}
 use Rattle.board_core.proofs.Steps.{loads}

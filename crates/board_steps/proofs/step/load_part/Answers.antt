@@ -1,3 +1,4 @@
+-- What the check of `load_part` leaves to show.
 use Rattle.std.proofs.Common.{arith}
 use Rattle.board_steps.specs.Abouts.{scripted}
 use Rattle.board_core.proofs.CellSteps.{loads_part}

@@ -1,3 +1,4 @@
+-- What the check of `publish` leaves to show.
 use Rattle.std.proofs.Common.{arith, sym}
 use Rattle.board_steps.specs.Abouts.{scripted}
 use Rattle.board_core.proofs.CellSteps.{publishes}

@@ -1,3 +1,4 @@
+-- What the check of `swap_turn` leaves to show.
 use Rattle.std.proofs.Common.{arith, ◌<◌, subst}
 use Rattle.board_core.specs.Counts.{times}
 use Rattle.board_steps.specs.Abouts.{scripted}

@@ -1,3 +1,4 @@
+-- What the check of `write_value` leaves to show.
 use Rattle.std.proofs.Common.{arith, ◌+◌, ◌*◌, ap, sym, subst}
 use mathlib.Core.Option.{none}
 use Rattle.atomic_table.specs.Table.{step, Allows}

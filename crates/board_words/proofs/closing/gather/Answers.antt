@@ -1,3 +1,4 @@
+-- What the check of `gather` leaves to show.
 use Rattle.std.proofs.Common.{◌∙◌, arith, None, get_or, refl}
 use Rattle.board_words.proofs.Gathered.{gather_step, fills_count}
 use Rattle.board_words.proofs.closing.gather.Goals as goal

@@ -1,5 +1,6 @@
+-- What each turn of the loops of `gather` keeps.
 use Rattle.std.proofs.Common.{◌≡◌, ◌≤◌, length, map, take}
-use Rattle.board_work.specs.Plans.{span_of}
+use Rattle.board_work.specs.Spans.{span_of}
 use Rattle.script_laws.specs.Placed.{placed}
 use Rattle.board_words.specs.Runs.{run_at}
 use Rattle.board_words.proofs.closing.gather.Given as goal

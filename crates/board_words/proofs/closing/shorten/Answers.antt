@@ -1,3 +1,4 @@
+-- What the check of `shorten` leaves to show.
 use Rattle.std.proofs.Common.{◌∙◌, ap, sym, take, length, arith}
 use Rattle.std.proofs.lemmas.List.{take_all}
 use Rattle.board_words.proofs.Gathered.{shorten_step}

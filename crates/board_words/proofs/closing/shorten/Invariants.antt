@@ -1,3 +1,4 @@
+-- What each turn of the loops of `shorten` keeps.
 use Rattle.std.proofs.Common.{◌≡◌, ◌+◌, length, take}
 use Rattle.board_words.proofs.closing.shorten.Given as goal
 

@@ -1,3 +1,4 @@
+-- What the check of `fill_known` leaves to show.
 use Rattle.board_work.specs.Plans.{plan_of}
 use Rattle.board_words.proofs.EarlyVersions.{versions_filled}
 use Rattle.board_words.proofs.early.fill_known.Goals as goal

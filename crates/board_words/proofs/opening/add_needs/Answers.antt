@@ -1,3 +1,4 @@
+-- What the check of `add_needs` leaves to show.
 use Rattle.std.proofs.Common.{◌∙◌, get_or, arith}
 use Rattle.board_core.proofs.PassFits.{times-take, times-take-le}
 use Rattle.board_words.proofs.opening.add_needs.Goals as goal

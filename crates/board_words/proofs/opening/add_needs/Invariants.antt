@@ -1,3 +1,4 @@
+-- What each turn of the loops of `add_needs` keeps.
 use Rattle.std.proofs.Common.{◌≡◌, ◌≢◌, ◌+◌, ℕ, length, take, slice_index}
 use Rattle.board_core.specs.Counts.{times}
 use Rattle.board_core.specs.Words.{need, need_at}

@@ -1,3 +1,4 @@
+-- What each turn of the loops of `all_sets_are_held` keeps.
 use Rattle.std.proofs.Common.{◌<◌, ◌≤◌, ℕ, length}
 use Rattle.txn_types.specs.Rising.{IsRising}
 use Rattle.known_defs.specs.Known.{txn_at}

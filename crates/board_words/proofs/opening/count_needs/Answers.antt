@@ -1,3 +1,4 @@
+-- What the check of `count_needs` leaves to show.
 use Rattle.std.proofs.Common.{◌≡◌, ◌∙◌, ◌+◌, ◌<◌, ◌≤◌, suc, sym, ap, subst, get_or, [], arith}
 use Rattle.board_core.specs.Counts.{below, times}
 use Rattle.board_steps.proofs.PartFacts.{stands_in}

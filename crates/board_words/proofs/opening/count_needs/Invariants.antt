@@ -1,3 +1,4 @@
+-- What each turn of the loops of `count_needs` keeps.
 use Rattle.std.proofs.Common.{◌≡◌, ◌≢◌, ◌≤◌, ℕ, [], length, slice_index, slice_index_or}
 use Rattle.board_core.specs.Counts.{below, times}
 use Rattle.board_core.specs.Words.{need, need_at}

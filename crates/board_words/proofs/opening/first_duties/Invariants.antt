@@ -1,3 +1,4 @@
+-- What each turn of the loops of `first_duties` keeps.
 use Rattle.std.proofs.Common.{◌≡◌, ◌<◌, ℕ, true, false, length, slice_index_or}
 use Rattle.board_core.specs.Words.{need}
 use Rattle.board_words.proofs.opening.first_duties.Given as goal

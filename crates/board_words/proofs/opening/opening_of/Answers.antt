@@ -1,3 +1,4 @@
+-- What the check of `opening_of` leaves to show.
 use Rattle.std.proofs.Common.{◌≡◌, ◌∙◌, ◌<◌, ◌≤◌, ℕ, sym, ap, subst, length, get_or, arith, [], List, rules, false, Bool}
 use Rattle.std.proofs.lemmas.List.{length-replicate}
 use Rattle.txn_types.specs.Rising.{IsRising}

@@ -1,3 +1,4 @@
+-- What the check of `row_of` leaves to show.
 use Rattle.std.proofs.Common.{◌∙◌, ap, sym, arith, length}
 use Rattle.board_core.specs.Counts.{times}
 use Rattle.board_work.specs.Plans.{plan_of}

@@ -1,3 +1,4 @@
+-- What each turn of the loops of `row_of` keeps.
 use Rattle.std.proofs.Common.{◌≡◌, ◌<◌, ◌≤◌, ℕ, length}
 use Rattle.board_core.specs.Counts.{times}
 use Rattle.board_work.specs.Scripts.{script}

@@ -1,3 +1,4 @@
+-- What the check of `rows_of` leaves to show.
 use Rattle.std.proofs.Common.{◌≡◌, ◌≤◌, ◌∙◌, ℕ, ap, length, length-append, ◌∷◌, [], arith}
 use Rattle.board_core.specs.Counts.{times}
 use Rattle.board_work.specs.Scripts.{script}

@@ -1,3 +1,4 @@
+-- What the check of `waits_for` leaves to show.
 use Rattle.std.proofs.Common.{◌≡◌, ◌∙◌, sym, ap, subst, length, arith, get_or, true, false, None}
 use Rattle.std.specs.Prelude.{is_some}
 use Rattle.board_work.specs.Plans.{plan_of}

@@ -1,3 +1,4 @@
+-- What the check of `read_all` leaves to show.
 use Rattle.std.proofs.Common.{◌≡◌, ◌∙◌, ap, sym, subst, length, arith, get_or, true, false}
 use Rattle.txn_types.specs.declared.txn.Txn.{Txn}
 use Rattle.board_steps.specs.Abouts.{told}

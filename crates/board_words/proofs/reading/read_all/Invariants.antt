@@ -1,3 +1,4 @@
+-- What each turn of the loops of `read_all` keeps.
 use Rattle.board_defs.specs.Closure.{is_own}
 use Rattle.board_work.specs.Scripts.{outcome_at}
 use Rattle.std.proofs.Common.{cond, ◌≡◌, ◌<◌, ◌≤◌, ℕ, None, length, slice_index_or}

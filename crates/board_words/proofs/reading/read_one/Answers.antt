@@ -1,3 +1,4 @@
+-- What the check of `read_one` leaves to show.
 use Rattle.std.proofs.Common.{◌∙◌, ◌+◌, ◌*◌, ◌≤◌, ap, get_or, length, length-append, arith, List, ℕ, ◌∷◌, []}
 use Rattle.std.specs.Mem.Slots.{slots_items}
 use Rattle.board_steps.specs.Abouts.{told}

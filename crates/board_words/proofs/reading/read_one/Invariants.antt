@@ -1,3 +1,4 @@
+-- What each turn of the loops of `read_one` keeps.
 use Rattle.std.proofs.Common.{◌≡◌, ◌≤◌, length, take}
 use Rattle.board_steps.specs.Abouts.{told}
 use Rattle.board_work.specs.Scripts.{outcome_at}

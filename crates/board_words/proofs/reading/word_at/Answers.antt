@@ -1,3 +1,4 @@
+-- What the check of `word_at` leaves to show.
 use Rattle.std.proofs.Common.{sym}
 use Rattle.std.specs.Mem.Slots.{slots_items}
 use Rattle.board_words.proofs.Decode.{at_or}

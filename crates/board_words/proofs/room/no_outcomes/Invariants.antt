@@ -1,3 +1,4 @@
+-- What each turn of the loops of `no_outcomes` keeps.
 use Rattle.std.proofs.Common.{◌≡◌, ℕ, length, None, slice_index_or}
 use Rattle.board_words.proofs.room.no_outcomes.Given as goal
 

@@ -1,3 +1,4 @@
+-- What each turn of the loops of `no_spans` keeps.
 use Rattle.std.proofs.Common.{◌≡◌, length}
 use Rattle.board_words.proofs.room.no_spans.Given as goal
 

@@ -1,3 +1,4 @@
+-- What each turn of the loops of `own_copy` keeps.
 use Rattle.std.proofs.Common.{◌≡◌, take}
 use Rattle.board_words.proofs.room.own_copy.Given as goal
 

@@ -1,3 +1,4 @@
+-- What the check of `fill_values` leaves to show.
 use Rattle.std.proofs.Common.{◌∙◌, ◌+◌, ◌*◌, sym, ap, length, get_or, arith, length-set, get_or-set_other, refl}
 use Rattle.txn_core.proofs.StateLemmas.{value_of_state}
 use Rattle.board_words.proofs.Filling.{value_step}

@@ -1,3 +1,4 @@
+-- What each turn of the loops of `fill_values` keeps.
 use Rattle.std.proofs.Common.{◌≡◌, ◌≢◌, ◌<◌, ℕ, length, slice_index}
 use Rattle.board_core.specs.Words.{value, value_place}
 use Rattle.board_words.proofs.values.fill_values.Given as goal

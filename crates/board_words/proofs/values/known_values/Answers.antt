@@ -1,3 +1,4 @@
+-- What the check of `known_values` leaves to show.
 use Rattle.std.proofs.Common.{◌∙◌, ◌<◌, sym, ap, subst, length, slice_index, arith}
 use Rattle.txn_types.specs.Fitting.{Fits}
 use Rattle.txn_types.specs.declared.txn.Txn.{Txn}

@@ -1,3 +1,4 @@
+-- What each turn of the loops of `known_values` keeps.
 use Rattle.std.proofs.Common.{◌≡◌, length, take}
 use Rattle.known_defs.specs.Known.{after_known}
 use Rattle.txn_core.specs.States.{state_of}

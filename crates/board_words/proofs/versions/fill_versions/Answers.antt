@@ -1,3 +1,4 @@
+-- What the check of `fill_versions` leaves to show.
 use Rattle.std.proofs.Common.{◌∙◌, subst, arith}
 use Rattle.board_words.proofs.Filling.{txn_is, known_is_at}
 use Rattle.board_words.proofs.EarlyVersions.{SetsOne, known_put, known_others}

@@ -1,3 +1,4 @@
+-- What each turn of the loops of `fill_versions` keeps.
 use Rattle.std.proofs.Common.{◌≡◌, ◌≢◌, ◌<◌, ◌+◌, ℕ, true, None, length, slice_index, slice_index_or}
 use Rattle.std.specs.Prelude.{is_some}
 use Rattle.known_defs.specs.Known.{txn_at}

@@ -1,3 +1,4 @@
+-- What the check of `put_known` leaves to show.
 use Rattle.std.proofs.Common.{ap}
 use Rattle.std.specs.Prelude.{is_some}
 use Rattle.board_words.proofs.versions.put_known.Goals as goal

@@ -1,3 +1,4 @@
+-- What the check of `put_versions` leaves to show.
 use Rattle.std.proofs.Common.{◌∙◌, ◌+◌, ◌*◌, ap, length, arith, length-set, get_or-set_other, Some}
 use Rattle.board_work.specs.Scripts.{word_of}
 use Rattle.script_laws.proofs.Fitted.{fits_small}

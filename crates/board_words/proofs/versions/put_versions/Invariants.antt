@@ -1,3 +1,4 @@
+-- What each turn of the loops of `put_versions` keeps.
 use Rattle.std.proofs.Common.{◌≡◌, ◌≢◌, ◌<◌, ◌+◌, ℕ, Some, length, slice_index}
 use Rattle.board_core.specs.Words.{part, part_at}
 use Rattle.board_work.specs.Scripts.{word_of}

@@ -1,3 +1,4 @@
+-- What each turn of the loops of `held_votes_are_cut` keeps.
 use Rattle.commit_batches.specs.Held.{IsFor}
 use Rattle.commit_batches.proofs.tests.held_votes_are_cut.Given as goal
 

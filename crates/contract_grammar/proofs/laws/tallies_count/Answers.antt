@@ -1,3 +1,4 @@
+-- What the check of `tallies_count` leaves to show.
 use Rattle.contract_grammar.proofs.Tallies.{tallies_count}
 use Rattle.contract_grammar.proofs.laws.tallies_count.Goals as goal
 

@@ -1,3 +1,4 @@
+-- What the check of `name_at` leaves to show.
 use Rattle.contract_grammar.specs.Lexer.{is_name_byte}
 use Rattle.contract_grammar.proofs.Lexing.{take_run, all_names}
 use Rattle.contract_grammar.proofs.lexer.name_at.Goals as goal

@@ -1,3 +1,4 @@
+-- What the check of `named` leaves to show.
 use Rattle.contract_grammar.proofs.Lexing.{take_min}
 use Rattle.contract_grammar.proofs.lexer.named.Goals as goal
 

@@ -1,3 +1,4 @@
+-- What the check of `tokens` leaves to show.
 use Rattle.std.proofs.Common.{◌≡◌, sym, ◌∙◌, arith, drop, take, length, ◌-◌, ◌≤◌}
 use Rattle.std.proofs.Math.ListN.{drop_of_length-le}
 use Rattle.std.proofs.lemmas.List.{append-nil, take_all, length-drop}

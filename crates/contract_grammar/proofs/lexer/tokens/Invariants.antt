@@ -1,3 +1,4 @@
+-- What each turn of the loops of `tokens` keeps.
 use Rattle.std.proofs.Common.{◌≡◌, ◌++◌, ◌≤◌, ◌+◌, drop, length}
 use Rattle.contract_grammar.specs.Lexer.{lexed, tokens}
 use Rattle.contract_grammar.proofs.lexer.tokens.Given as goal

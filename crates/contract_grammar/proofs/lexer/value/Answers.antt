@@ -1,3 +1,4 @@
+-- What the check of `value` leaves to show.
 use Rattle.std.proofs.Common.{◌≡◌, ◌+◌, ◌*◌, ◌-◌, ◌∙◌, min, get_or, arith}
 use Rattle.txn_types.specs.Values.{max_value}
 use Rattle.contract_grammar.proofs.Lexing.{number_turn}

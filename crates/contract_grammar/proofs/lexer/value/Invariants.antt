@@ -1,3 +1,4 @@
+-- What each turn of the loops of `value` keeps.
 use Rattle.std.proofs.Common.{◌≡◌, ◌≤◌, drop, min, ◌+◌}
 use Rattle.txn_types.specs.Values.{max_value}
 use Rattle.contract_grammar.specs.Lexer.{decimal}

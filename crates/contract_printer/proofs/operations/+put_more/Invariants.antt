@@ -1,3 +1,4 @@
+-- What each turn of the loops of `+put_more` keeps.
 use Rattle.std.proofs.Common.{length}
 use Rattle.contract_printer.proofs.operations.+put_more.Given as goal
 

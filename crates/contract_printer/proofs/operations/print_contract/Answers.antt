@@ -1,3 +1,4 @@
+-- What the check of `print_contract` leaves to show.
 use Rattle.contract_printer.proofs.Accepted.{if_shortest}
 use Rattle.contract_printer.proofs.Reread.{if_read}
 use Rattle.contract_printer.proofs.operations.print_contract.Goals as goal

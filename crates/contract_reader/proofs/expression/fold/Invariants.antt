@@ -1,5 +1,6 @@
+-- What each turn of the loops of `fold` keeps.
 use Rattle.std.proofs.Common.{◌≡◌, vec_len}
-use Rattle.contract_grammar.specs.Tree.{tree}
+use Rattle.contract_grammar.specs.Held.{tree}
 use Rattle.contract_grammar.specs.Expressions.{folded}
 use Rattle.contract_reader.specs.Views.{stack}
 use Rattle.contract_reader.proofs.expression.fold.Given as goal

@@ -1,3 +1,4 @@
+-- What the check of `read` leaves to show.
 use Rattle.contract_reader.proofs.Exactly.{contract_given, fault_given}
 use Rattle.contract_reader.proofs.reader.read.Goals as goal
 

@@ -1,3 +1,4 @@
+-- What the check of `read_exactly` leaves to show.
 use Rattle.std.proofs.Common.{◌≡◌, ◌≤◌, ◌||◌, Bool, true, false, length, refl, sym, ◌∙◌, arith}
 use Rattle.contract_grammar.specs.Lexer.{tokens}
 use Rattle.contract_grammar.specs.Limits.{passes}

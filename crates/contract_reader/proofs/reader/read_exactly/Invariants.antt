@@ -1,3 +1,4 @@
+-- What each turn of the loops of `read_exactly` keeps.
 use Rattle.std.proofs.Common.{◌≡◌, drop, length}
 use Rattle.contract_grammar.specs.Lexer.{tokens}
 use Rattle.contract_grammar.specs.Reading.{read_from, reading}

@@ -1,3 +1,4 @@
+-- What each turn of the loops of `+put_ops` keeps.
 use Rattle.std.proofs.Common.{length}
 use Rattle.contract_text.proofs.operations.+put_ops.Given as goal
 

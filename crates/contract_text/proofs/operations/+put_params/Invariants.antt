@@ -1,3 +1,4 @@
+-- What each turn of the loops of `+put_params` keeps.
 use Rattle.std.proofs.Common.{length}
 use Rattle.contract_text.proofs.operations.+put_params.Given as goal
 

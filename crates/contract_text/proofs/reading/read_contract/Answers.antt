@@ -1,3 +1,4 @@
+-- What the check of `read_contract` leaves to show.
 use Rattle.std.proofs.Common.{sym}
 use Rattle.contract_text.proofs.Judged.{given_contract, given_fault, given_fine, given_names, given_count}
 use Rattle.contract_text.proofs.Accepted.{given_lawful}

@@ -1,5 +1,6 @@
+-- What the check of `read_exactly` leaves to show.
 use Rattle.std.proofs.Common.{sym, ap, ◌∙◌}
-use Rattle.contract_text.specs.Verdict.{syntax_fault, limit_fault}
+use Rattle.contract_text.specs.TextFaults.{syntax_fault, limit_fault}
 use Rattle.contract_text.proofs.Judged.{room_read, verdict_read}
 use Rattle.contract_text.proofs.reading.read_exactly.Goals as goal
 

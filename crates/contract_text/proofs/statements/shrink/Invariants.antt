@@ -1,3 +1,4 @@
+-- What each turn of the loops of `shrink` keeps.
 use Rattle.std.proofs.Common.{◌≡◌, ◌≤◌, length, take}
 use Rattle.contract_text.proofs.statements.shrink.Given as goal
 

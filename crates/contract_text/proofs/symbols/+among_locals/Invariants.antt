@@ -1,3 +1,4 @@
+-- What each turn of the loops of `+among_locals` keeps.
 use Rattle.std.proofs.Common.{length}
 use Rattle.contract_text.proofs.symbols.+among_locals.Given as goal
 

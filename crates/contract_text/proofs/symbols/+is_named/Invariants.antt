@@ -1,3 +1,4 @@
+-- What each turn of the loops of `+is_named` keeps.
 use Rattle.std.proofs.Common.{length}
 use Rattle.contract_text.proofs.symbols.+is_named.Given as goal
 

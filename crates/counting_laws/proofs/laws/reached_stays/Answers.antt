@@ -1,3 +1,4 @@
+-- What the check of `reached_stays` leaves to show.
 use Rattle.node_defs.proofs.CountingLemmas.{reached_stays}
 use Rattle.counting_laws.proofs.laws.reached_stays.Goals as goal
 

@@ -1,3 +1,4 @@
+-- What the check of `first_to_reach` leaves to show.
 use Rattle.std.proofs.Common.{◌≡◌, ◌<◌, ◌+◌, length, sym, ◌∙◌, arith, ◌&&◌, take, count_by}
 use Rattle.std.proofs.lemmas.Bool.{both_ways}
 use Rattle.counting_laws.proofs.Reaching.{nothing_more, reached_here}

@@ -1,3 +1,4 @@
+-- What each turn of the loops of `first_to_reach` keeps.
 use Rattle.std.proofs.Common.{◌≡◌, reverse, take, None}
 use Rattle.node_defs.specs.Counting.{first_to_reach}
 use Rattle.counting_laws.specs.Contents.{contents}

@@ -1,3 +1,4 @@
+-- What each turn of the loops of `build` keeps.
 use Rattle.std.proofs.Common.{◌≡◌, take, length}
 use Rattle.oxii_defs.specs.Dependency.{graph_of}
 use Rattle.dep_graph.proofs.built.build.Given as goal

@@ -1,3 +1,4 @@
+-- What each turn of the loops of `list_of` keeps.
 use Rattle.std.proofs.Common.{◌≡◌, ◌++◌}
 use Rattle.dep_graph.proofs.built.list_of.Given as goal
 

@@ -1,3 +1,4 @@
+-- What the check of `another_follows` leaves to show.
 use Rattle.std.proofs.Common.{◌&&◌, ◌==◌, not, [], get_or, sym, subst, ◌∙◌, ap, arith}
 use Rattle.txn_core.specs.Graphs.{ArePreds}
 use Rattle.txn_core.proofs.GraphLemmas.{graph_preds}

@@ -1,3 +1,4 @@
+-- What each turn of the loops of `another_follows` keeps.
 use Rattle.std.proofs.Common.{◌≡◌, drop}
 use Rattle.node_defs.specs.Sent.{other_app_follows}
 use Rattle.dep_graph.proofs.follow.another_follows.Given as goal

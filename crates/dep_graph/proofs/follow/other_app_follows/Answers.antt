@@ -1,3 +1,4 @@
+-- What the check of `other_app_follows` leaves to show.
 use Rattle.std.proofs.Common.{◌<◌, ◌∙◌, List, length, ap, sym, arith}
 use Rattle.std.proofs.lemmas.List.{get_or_default}
 use Rattle.txn_types.specs.declared.txn.Txn.{Txn}

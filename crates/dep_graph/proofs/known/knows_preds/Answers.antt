@@ -1,3 +1,4 @@
+-- What the check of `knows_preds` leaves to show.
 use Rattle.std.proofs.Common.{◌<◌, length, [], List, ℕ, ◌∙◌, ap, arith}
 use Rattle.std.specs.List.{slice_index_or}
 use Rattle.txn_core.proofs.GraphLemmas.{length-graph_of}

@@ -1,3 +1,4 @@
+-- What each turn of the loops of `first_from` keeps.
 use Rattle.std.proofs.Common.{◌≡◌, drop}
 use Rattle.dep_graph.specs.Successors.{successors_from}
 use Rattle.dep_graph.proofs.walk.first_from.Given as goal

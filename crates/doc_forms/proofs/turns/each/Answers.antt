@@ -3,7 +3,8 @@ use Rattle.std.proofs.Common.{arith}
 use Rattle.std.proofs.lemmas.Result.{err_from_is_err_and}
 use Rattle.serde_json.specs.View.{view}
 use Rattle.doc_forms.specs.declared.fault.Step.TheVariants.{Index}
-use Rattle.doc_forms.specs.Check.{Gives, within}
+use Rattle.doc_forms.specs.Check.{within}
+use Rattle.doc_forms.specs.Answers.{Gives}
 use Rattle.doc_forms.proofs.Steps.{goes_on, fails_here, ended, gives_up}
 use Rattle.doc_forms.proofs.turns.each.Given.{Over}
 use Rattle.doc_forms.proofs.turns.each.Goals as goal

@@ -1,3 +1,4 @@
+-- What each turn of the loops of `each` keeps.
 use Rattle.std.proofs.Common.{◌≡◌, drop}
 use Rattle.serde_json.specs.View.{items_view}
 use Rattle.doc_forms.specs.Forms.{each}

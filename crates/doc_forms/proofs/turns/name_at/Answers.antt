@@ -1,3 +1,4 @@
+-- What the check of `name_at` leaves to show.
 use Rattle.doc_forms.specs.declared.fault.Step.TheVariants.{Key}
 use Rattle.doc_forms.specs.Forms.{name_at}
 use Rattle.doc_forms.proofs.Steps.{gives_up}

@@ -1,3 +1,4 @@
+-- What the check of `is_listed` leaves to show.
 use Rattle.std.proofs.Common.{arith, sym, ◌∙◌}
 use Rattle.doc_forms.proofs.Lists.{listed_goes_on, listed_stops, listed_ended}
 use Rattle.doc_forms.proofs.unused.is_listed.Goals as goal

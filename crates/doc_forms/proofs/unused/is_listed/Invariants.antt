@@ -1,3 +1,4 @@
+-- What each turn of the loops of `is_listed` keeps.
 use Rattle.std.proofs.Common.{◌≡◌, drop}
 use Rattle.doc_forms.specs.Forms.{is_listed}
 use Rattle.doc_forms.proofs.Lists.{texts}

@@ -1,3 +1,4 @@
+-- What the check of `only` leaves to show.
 use Rattle.std.proofs.Common.{◌∙◌, sym, ap, rules}
 use Rattle.doc_forms.specs.Forms.{is_listed}
 use Rattle.doc_forms.proofs.Lists.{texts}

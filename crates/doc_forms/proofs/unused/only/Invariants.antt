@@ -1,3 +1,4 @@
+-- What each turn of the loops of `only` keeps.
 use Rattle.std.proofs.Common.{◌≡◌, map}
 use Rattle.serde_json.specs.View.{members_view}
 use Rattle.doc_forms.specs.Forms.{only}

@@ -1,8 +1,10 @@
+-- What the check of `links_at` leaves to show.
 use Rattle.std.proofs.Common.{◌≡◌, Result, Ok, Err, ap}
 use Rattle.std.specs.Prelude.{MatchResult, ⊤}
 use Rattle.doc_forms.specs.declared.fault.DocFault.{DocFault}
 use Rattle.doc_forms.specs.Faults.{Fault}
-use Rattle.doc_forms.specs.Check.{◌>>=◌, Gives}
+use Rattle.doc_forms.specs.Check.{◌>>=◌}
+use Rattle.doc_forms.specs.Answers.{Gives}
 use Rattle.doc_forms.proofs.Steps.{fails_first}
 use Rattle.doc_schedule.specs.Blocks.{links_at}
 use Rattle.doc_schedule.proofs.blocks.links_at.Goals as goal

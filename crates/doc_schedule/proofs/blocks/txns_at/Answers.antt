@@ -1,3 +1,4 @@
+-- What the check of `txns_at` leaves to show.
 use Rattle.std.specs.Prelude.{codes}
 use Rattle.doc_forms.specs.declared.fault.Step.TheVariants.{Key}
 use Rattle.doc_forms.proofs.Steps.{gives_up}

@@ -1,3 +1,4 @@
+-- What the check of `txns_within` leaves to show.
 use Rattle.std.proofs.Common.{◌≤◌, ◌+◌, arith}
 use Rattle.doc_schedule.specs.Blocks.{next_txn}
 use Rattle.doc_schedule.proofs.EndsMeant.{each_count}

@@ -1,3 +1,4 @@
+-- What the check of `entries` leaves to show.
 use Rattle.std.proofs.Common.{◌≡◌, length, refl}
 use Rattle.doc_schedule.specs.Votes.{next_out}
 use Rattle.doc_schedule.specs.ScheduleMeaning.{SaysWritten}

@@ -1,3 +1,4 @@
+-- What the check of `votes_within` leaves to show.
 use Rattle.std.proofs.Common.{◌≤◌, ◌+◌, arith}
 use Rattle.doc_schedule.specs.Votes.{next_vote}
 use Rattle.doc_schedule.specs.ScheduleMeaning.{SaysVote}

@@ -1,3 +1,4 @@
+-- What the check of `is_taken` leaves to show.
 use Rattle.std.proofs.Common.{◌∙◌}
 use Rattle.doc_tables.proofs.Mapped.{any_named}
 use Rattle.doc_tables.proofs.apps.is_taken.Goals as goal

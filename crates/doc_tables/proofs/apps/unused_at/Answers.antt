@@ -1,3 +1,4 @@
+-- What the check of `unused_at` leaves to show.
 use Rattle.doc_forms.specs.declared.fault.Step.TheVariants.{Key}
 use Rattle.doc_forms.proofs.Steps.{gives_up}
 use Rattle.doc_tables.specs.Apps.{unused_at}

@@ -1,3 +1,4 @@
+-- What each turn of the loops of `values_of` keeps.
 use Rattle.std.proofs.Common.{◌≡◌, take}
 use Rattle.doc_tables.proofs.records.values_of.Given as goal
 

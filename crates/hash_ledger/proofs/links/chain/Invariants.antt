@@ -1,3 +1,4 @@
+-- What each turn of the loops of `chain` keeps.
 use Rattle.std.proofs.Common.{◌≡◌, ◌+◌, ◌++◌, drop}
 use Rattle.oxii_defs.specs.Chain.{chain, chain_from}
 use Rattle.txn_core.specs.MeantTable.{table_of}

@@ -1,3 +1,4 @@
+-- What the check of `graph_kind_at` leaves to show.
 use Rattle.doc_forms.specs.declared.fault.Step.TheVariants.{Key}
 use Rattle.doc_forms.proofs.Steps.{gives_up}
 use Rattle.input_doc.specs.Head.{graph_kind_at}

@@ -1,9 +1,10 @@
+-- What the check of `read_document` leaves to show.
 use Rattle.std.proofs.Common.{List, subst, sym}
 use Rattle.std.specs.List.{All}
 use Rattle.txn_types.specs.declared.stream.Item.{Item}
 use Rattle.oxii_defs.specs.Table.{Table}
 use Rattle.oxii_defs.specs.Lawful.{IsLawfulTable}
-use Rattle.node_defs.specs.Admission.{IsLawfulItem}
+use Rattle.node_defs.specs.LawfulItems.{IsLawfulItem}
 use Rattle.input_doc.proofs.TablesLawful.{table_is_lawful, items_are_lawful}
 use Rattle.input_doc.proofs.reader.read_document.Goals as goal
 

@@ -1,3 +1,4 @@
+-- What the check of `read_input` leaves to show.
 use Rattle.input_doc.proofs.Once.{exactly_one}
 use Rattle.input_doc.proofs.Answered.{given_meaning, given_fault, given_lawful}
 use Rattle.input_doc.proofs.reader.read_input.Goals as goal

@@ -1,3 +1,4 @@
+-- What the check of `tree` leaves to show.
 use Rattle.std.proofs.Common.{refl, inr, arith}
 use Rattle.input_doc.proofs.Trees.{tree_from_read, no_tree}
 use Rattle.input_doc.proofs.reader.tree.Goals as goal

@@ -1,3 +1,4 @@
+-- What each turn of the loops of `app_names` keeps.
 use Rattle.std.proofs.Common.{◌≡◌, map, take}
 use Rattle.txn_core.specs.MeantTable.{app_of}
 use Rattle.input_doc.proofs.stream_and_schedule.app_names.Given as goal

@@ -1,3 +1,4 @@
+-- What each turn of the loops of `roles_of` keeps.
 use Rattle.std.proofs.Common.{◌≡◌, ◌++◌, drop}
 use Rattle.txn_core.specs.MeantTable.{table_of}
 use Rattle.input_doc.specs.Reading.{roles_of}

@@ -1,3 +1,4 @@
+-- What the check of `has_lists` leaves to show.
 use Rattle.std.proofs.Common.{[], arith, length, sym, ◌<◌, ◌∙◌}
 use Rattle.std.proofs.lemmas.Bool.{not-false}
 use Rattle.std.proofs.lemmas.List.{get_or_default}

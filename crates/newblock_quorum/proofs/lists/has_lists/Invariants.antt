@@ -1,3 +1,4 @@
+-- What each turn of the loops of `has_lists` keeps.
 use Rattle.std.proofs.Common.{◌≡◌, ◌↔◌, length, drop}
 use Rattle.newblock_quorum.proofs.lists.has_lists.Given as goal
 

@@ -1,3 +1,4 @@
+-- What the check of `write_all` leaves to show.
 use Rattle.std.proofs.Common.{arith, ◌++◌, take}
 use Rattle.std.proofs.KnownBytes.{Appends-trans}
 use Rattle.par_io.proofs.Splits.{split_more}

@@ -1,3 +1,4 @@
+-- What each turn of the loops of `read_all` keeps.
 use Rattle.std.proofs.Common.{◌≤◌, ◌-◌, length}
 use Rattle.std.specs.Io.KnownBytes.{Consumes}
 use Rattle.par_io.proofs.source.read_all.Given as goal

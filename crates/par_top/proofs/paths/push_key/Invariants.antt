@@ -1,3 +1,4 @@
+-- What each turn of the loops of `push_key` keeps.
 use Rattle.std.proofs.Common.{◌≡◌, ◌++◌, map, take}
 use Rattle.par_top.specs.Statuses.{printed_byte}
 use Rattle.par_top.proofs.paths.push_key.Given as goal

@@ -1,3 +1,4 @@
+-- What each turn of the loops of `push_steps` keeps.
 use Rattle.std.proofs.Common.{◌≡◌, ◌++◌, take}
 use Rattle.std.specs.List.{flat_map}
 use Rattle.par_top.specs.Statuses.{step_text}

@@ -1,3 +1,4 @@
+-- What the check of `soak_summary` leaves to show.
 use Rattle.input_doc.specs.Held.{input_of}
 use Rattle.par_top.proofs.SoakWorlds.{soak_world}
 use Rattle.par_top.proofs.soak.soak_summary.Goals as goal

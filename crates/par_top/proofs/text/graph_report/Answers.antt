@@ -1,3 +1,4 @@
+-- What the check of `graph_report` leaves to show.
 use Rattle.input_doc.specs.Held.{input_of}
 use Rattle.par_top.proofs.TextLemmas.{graph_text_is}
 use Rattle.par_top.proofs.text.graph_report.Goals as goal

@@ -1,3 +1,4 @@
+-- What the check of `play` leaves to show.
 use Rattle.std.proofs.Common.{List, [], refl, subst, arith}
 use Rattle.txn_types.specs.declared.event.Event.{Event}
 use Rattle.txn_core.specs.MeantTable.{table_of}

@@ -1,3 +1,4 @@
+-- What the check of `run_text` leaves to show.
 use Rattle.std.proofs.Common.{ap, sym}
 use Rattle.txn_core.specs.MeantTable.{table_of}
 use Rattle.txn_core.specs.States.{state_of}

@@ -1,9 +1,11 @@
+-- What the check of `run` leaves to show.
 use Rattle.std.proofs.Common.{◌≡◌, map, string_bytes, subst, sym}
 use Rattle.input_doc.proofs.Once.{exactly_one}
 use Rattle.par_words.specs.Words.{IsCommand}
 use Rattle.par_words.specs.declared.command.Command.{Command}
 use Rattle.par_words.specs.declared.command.Command.TheVariants.{Run, Soak}
-use Rattle.par_top.specs.Top.{IsHeadline, Reads}
+use Rattle.par_top.specs.Refusals.{Reads}
+use Rattle.par_top.specs.Texts.{IsHeadline}
 use Rattle.par_top.proofs.SerialHeadlines.{serial_headline}
 use Rattle.par_top.proofs.Complete.{is_answered, is_faulty, is_long, is_made}
 use Rattle.par_top.proofs.Endings.{ended_ok, left_alone}

@@ -1,3 +1,4 @@
+-- What each turn of the loops of `push_bursts` keeps.
 use Rattle.std.proofs.Common.{◌≡◌, ◌++◌, take}
 use Rattle.txn_core.specs.MeantTable.{table_of}
 use Rattle.par_top.specs.Traced.{bursts_lines}

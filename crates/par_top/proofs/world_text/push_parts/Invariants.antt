@@ -1,3 +1,4 @@
+-- What each turn of the loops of `push_parts` keeps.
 use Rattle.std.proofs.Common.{◌≡◌, ◌++◌, ◌-◌, length}
 use Rattle.oxii_defs.specs.State.{State}
 use Rattle.node_defs.specs.World as meant

@@ -1,3 +1,4 @@
+-- What the check of `push_peer` leaves to show.
 use Rattle.std.proofs.Common.{◌++◌, ◌∙◌, ap, List, ℕ}
 use Rattle.hash_ledger.specs.Halts.{halted_of}
 use Rattle.par_top.proofs.WorldTextLemmas.{part_for}

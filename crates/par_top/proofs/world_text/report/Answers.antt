@@ -1,3 +1,4 @@
+-- What the check of `report` leaves to show.
 use Rattle.std.proofs.Common.{◌∙◌, ap, length}
 use Rattle.par_top.proofs.WorldTextLemmas.{traced_text_is}
 use Rattle.par_top.proofs.world_text.report.Goals as goal

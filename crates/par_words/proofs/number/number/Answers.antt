@@ -1,3 +1,4 @@
+-- What the check of `number` leaves to show.
 use Rattle.std.proofs.Common.{◌≡◌, ◌∙◌, sym, arith}
 use Rattle.std.proofs.lemmas.Fmt.{decimal_injective}
 use Rattle.par_words.proofs.number.number.Goals as goal

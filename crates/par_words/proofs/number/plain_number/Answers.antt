@@ -1,3 +1,4 @@
+-- What the check of `plain_number` leaves to show.
 use Rattle.std.proofs.Common.{rules}
 use Rattle.par_words.proofs.Numbers.{parsed}
 use Rattle.par_words.proofs.number.plain_number.Goals as goal

@@ -1,3 +1,4 @@
+-- What the check of `find` leaves to show.
 use Rattle.std.proofs.Common.{◌≡◌, ◌∙◌, false, sym, inl, inr, map, string_bytes}
 use Rattle.std.specs.List.{list_any}
 use Rattle.std.specs.declared.alloc.Global.{Global}

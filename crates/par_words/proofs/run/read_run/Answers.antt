@@ -1,3 +1,4 @@
+-- What the check of `read_run` leaves to show.
 use Rattle.std.proofs.Common.{◌≡◌, None, map, string_bytes, rules}
 use Rattle.std.specs.declared.alloc.Global.{Global}
 use Rattle.clap.specs.Words.{found_of}

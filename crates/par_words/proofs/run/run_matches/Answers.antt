@@ -1,3 +1,4 @@
+-- What the check of `run_matches` leaves to show.
 use Rattle.std.proofs.Common.{◌≡◌}
 use Rattle.clap.specs.Words.{app_of, found_of}
 use Rattle.par_words.specs.CommandOptions.{run_app}

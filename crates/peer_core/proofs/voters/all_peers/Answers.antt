@@ -1,3 +1,4 @@
+-- What the check of `all_peers` leaves to show.
 use Rattle.std.specs.Prelude.{◌≡◌, ◌<◌, ◌+◌, ◌++◌, ◌∷◌, [], suc, length, map}
 use Rattle.std.proofs.Common.{sym, ◌∙◌, ap, subst, arith}
 use Rattle.txn_types.specs.Rising.{IsRising}

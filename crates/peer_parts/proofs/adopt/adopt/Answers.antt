@@ -1,3 +1,4 @@
+-- What the check of `adopt` leaves to show.
 use Rattle.std.proofs.Common.{◌≡◌, ◌<◌, ◌+◌, length, get_or, None, List, Option, sym, ◌∙◌, ap, subst, arith, ⊎_elim}
 use Rattle.txn_types.specs.declared.txn.Outcome.{Outcome}
 use Rattle.txn_types.specs.Fitting.{Fits}

@@ -1,3 +1,4 @@
+-- What each turn of the loops of `adopt` keeps.
 use Rattle.std.proofs.Common.{◌≡◌, ◌≤◌, ℕ, true, None, length, get_or}
 use Rattle.board_defs.specs.Closure.{IsKnownClosed, is_own}
 use Rattle.steal_pool.specs.Fitting.{AllFitAt}

@@ -1,3 +1,4 @@
+-- What the check of `hold` leaves to show.
 use Rattle.std.proofs.Common.{◌≡◌, ◌<◌, ◌+◌, ℕ, suc, cond, length, sym, ◌∙◌, ap, subst, arith}
 use Rattle.txn_types.specs.declared.txn.Kind.{Kind}
 use Rattle.peer_laws.specs.Turns.{vote_of}

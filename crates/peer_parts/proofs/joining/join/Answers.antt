@@ -1,8 +1,9 @@
+-- What the check of `join` leaves to show.
 use Rattle.std.proofs.Common.{◌*◌, List, map, ◌∙◌, ap, arith}
 use Rattle.std.proofs.lemmas.List.{length-map}
-use Rattle.board_defs.specs.Trace.{raised_span}
+use Rattle.board_defs.specs.Rounds.{raised_span}
 use Rattle.board_work.specs.declared.plan.Span.{Span}
-use Rattle.board_work.specs.Plans.{span_of}
+use Rattle.board_work.specs.Spans.{span_of}
 use Rattle.peer_parts.specs.Joining.{put_spans}
 use Rattle.peer_parts.proofs.JoinLemmas.{joined_is}
 use Rattle.peer_parts.proofs.joining.join.Goals as goal

@@ -1,6 +1,7 @@
+-- What the check of `put_each` leaves to show.
 use Rattle.std.proofs.Common.{◌∙◌, ap, map}
-use Rattle.board_defs.specs.Trace.{put_span}
-use Rattle.board_work.specs.Plans.{span_of}
+use Rattle.board_defs.specs.Rounds.{put_span}
+use Rattle.board_work.specs.Spans.{span_of}
 use Rattle.peer_parts.proofs.JoinLemmas.{put_more, short_part}
 use Rattle.peer_parts.proofs.joining.put_each.Goals as goal
 

@@ -1,6 +1,7 @@
+-- What each turn of the loops of `put_each` keeps.
 use Rattle.std.proofs.Common.{◌≡◌, map, length}
-use Rattle.board_defs.specs.Trace.{raised_span}
-use Rattle.board_work.specs.Plans.{span_of}
+use Rattle.board_defs.specs.Rounds.{raised_span}
+use Rattle.board_work.specs.Spans.{span_of}
 use Rattle.peer_parts.specs.Joining.{IsShort, put_spans}
 use Rattle.peer_parts.proofs.joining.put_each.Given as goal
 

@@ -1,6 +1,7 @@
+-- What the check of `round` leaves to show.
 use Rattle.std.proofs.Common.{◌≡◌, length, sym, ◌∙◌, subst}
 use Rattle.board_defs.specs.Trace.{IsLawfulTrace}
-use Rattle.board_work.specs.Plans.{span_of}
+use Rattle.board_work.specs.Spans.{span_of}
 use Rattle.std.specs.Prelude.{map}
 use Rattle.peer_parts.specs.Tasks.{frame_of, HasAllGiven}
 use Rattle.peer_parts.proofs.RoundLemmas.{all_given}

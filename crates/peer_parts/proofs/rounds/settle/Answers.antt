@@ -1,3 +1,4 @@
+-- What the check of `settle` leaves to show.
 use Rattle.std.proofs.Common.{◌≡◌, length, sym, ◌∙◌, subst, arith}
 use Rattle.std.proofs.lemmas.List.{take_all}
 use Rattle.txn_core.specs.MeantTable.{table_of}

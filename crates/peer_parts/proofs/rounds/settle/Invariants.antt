@@ -1,3 +1,4 @@
+-- What each turn of the loops of `settle` keeps.
 use Rattle.std.proofs.Common.{◌≡◌, length}
 use Rattle.board_defs.specs.Closure.{IsKnownClosed}
 use Rattle.steal_pool.specs.Fitting.{AllFitAt}

@@ -1,3 +1,4 @@
+-- What the check of `is_ready` leaves to show.
 use Rattle.std.proofs.Common.{length, ap, arith}
 use Rattle.txn_core.proofs.GraphLemmas.{length-graph_of}
 use Rattle.peer_parts.proofs.runs.is_ready.Goals as goal

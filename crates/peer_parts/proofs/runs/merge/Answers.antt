@@ -1,3 +1,4 @@
+-- What the check of `merge` leaves to show.
 use Rattle.std.proofs.Common.{◌≡◌, ◌<◌, List, Option, None, length, get_or, ◌∙◌, ap, arith}
 use Rattle.std.proofs.lemmas.List.{get_or_default}
 use Rattle.txn_types.specs.declared.txn.Outcome.{Outcome}

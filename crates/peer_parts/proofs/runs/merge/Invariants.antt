@@ -1,3 +1,4 @@
+-- What each turn of the loops of `merge` keeps.
 use Rattle.peer_parts.proofs.LearnLemmas.{Merged}
 use Rattle.peer_parts.proofs.runs.merge.Given as goal
 

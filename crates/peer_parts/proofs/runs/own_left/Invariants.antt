@@ -1,3 +1,4 @@
+-- What each turn of the loops of `own_left` keeps.
 use Rattle.std.proofs.Common.{◌≡◌}
 use Rattle.peer_parts.specs.Ready.{left_upto}
 use Rattle.peer_parts.proofs.runs.own_left.Given as goal

@@ -1,3 +1,4 @@
+-- What the check of `run_plan` leaves to show.
 use Rattle.board_work.specs.Plans.{plan_of}
 use Rattle.peer_parts.proofs.BurstLemmas.{closed_by}
 use Rattle.peer_parts.proofs.runs.run_plan.Goals as goal

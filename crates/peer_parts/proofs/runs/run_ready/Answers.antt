@@ -1,7 +1,8 @@
+-- What the check of `run_ready` leaves to show.
 use Rattle.std.proofs.Common.{◌≡◌, List, Bool, length, map, sym, ◌∙◌, ap, subst, arith}
 use Rattle.board_defs.specs.Closure.{closure, ran_positions, IsClosed, IsKnownClosed, IsLawfulPlan}
 use Rattle.board_defs.specs.Trace.{IsLawfulTrace}
-use Rattle.board_work.specs.Plans.{span_of}
+use Rattle.board_work.specs.Spans.{span_of}
 use Rattle.txn_core.specs.MeantTable.{table_of}
 use Rattle.trace_laws.proofs.RunOutcomes.{length_run_outcomes}
 use Rattle.peer_parts.specs.Found.{IsSound}

@@ -1,3 +1,4 @@
+-- What each turn of the loops of `hear` keeps.
 use Rattle.std.proofs.Common.{◌≡◌, ℕ, List, take}
 use Rattle.vote_book.specs.Puts.{Cast, BookStandsFor}
 use Rattle.peer_parts.specs.Voting.{with_casts, any_new}

@@ -1,3 +1,4 @@
+-- What the check of `vote` leaves to show.
 use Rattle.std.proofs.Common.{◌≡◌, ◌<◌, List, Bool, Option, None, false, length, get_or, ◌∙◌, ap, subst, arith}
 use Rattle.std.proofs.lemmas.List.{get_or_default}
 use Rattle.txn_types.specs.declared.txn.Outcome.{Outcome}

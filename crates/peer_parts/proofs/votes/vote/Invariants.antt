@@ -1,3 +1,4 @@
+-- What each turn of the loops of `vote` keeps.
 use Rattle.std.proofs.Common.{ℕ, List}
 use Rattle.vote_book.specs.Puts.{Cast, BookStandsFor}
 use Rattle.peer_parts.specs.Voting.{own_upto}

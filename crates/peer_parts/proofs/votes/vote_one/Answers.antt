@@ -1,3 +1,4 @@
+-- What the check of `vote_one` leaves to show.
 use Rattle.std.proofs.Common.{◌++◌, sym, ◌∙◌, subst}
 use Rattle.vote_book.specs.Puts.{BookStandsFor}
 use Rattle.peer_parts.proofs.VotingLemmas.{ran_cast}

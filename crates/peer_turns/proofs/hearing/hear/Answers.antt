@@ -1,8 +1,9 @@
+-- What the check of `hear` leaves to show.
 use Rattle.std.proofs.Common.{sym, ◌∙◌, ap, length, false, subst}
 use Rattle.txn_types.specs.declared.message.Message.{Message}
 use Rattle.txn_types.specs.declared.message.Message.TheVariants as message
 use Rattle.txn_types.specs.declared.message.NewBlock.{NewBlock}
-use Rattle.oxii_defs.specs.Chain.{IsLawfulBlock}
+use Rattle.oxii_defs.specs.Lawful.{IsLawfulBlock}
 use Rattle.txn_core.specs.MeantTable.{table_of}
 use Rattle.newblock_quorum.proofs.Lawful.{blocks_keep}
 use Rattle.peer_laws.specs.declared.note.Note.{Note}

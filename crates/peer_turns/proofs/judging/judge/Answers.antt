@@ -1,3 +1,4 @@
+-- What the check of `judge` leaves to show.
 use Rattle.std.proofs.Common.{length, length-append, sym, ◌∙◌, ap}
 use Rattle.peer_turns.specs.Peers.{peer_of}
 use Rattle.peer_turns.proofs.Judgements.{done_well, done_judged, halts_well}

@@ -1,3 +1,4 @@
+-- What the check of `turn` leaves to show.
 use Rattle.std.specs.Prelude.{Option, List, IfSome}
 use Rattle.std.specs.Option.{option_map}
 use Rattle.std.proofs.Common.{sym, ◌∙◌, ap, subst}

@@ -1,3 +1,4 @@
+-- What the check of `turns` leaves to show.
 use Rattle.std.specs.Prelude.{suc}
 use Rattle.std.proofs.Common.{◌∙◌}
 use Rattle.peer_turns.proofs.TurnLemmas.{was_last, was_more}

@@ -1,3 +1,4 @@
+-- What each turn of the loops of `turns` keeps.
 use Rattle.std.proofs.Common.{◌≡◌, ◌-◌, ◌^◌, ℕ, length}
 use Rattle.oxii_defs.specs.State.{State}
 use Rattle.node_defs.specs.Log.{Letter, Log}

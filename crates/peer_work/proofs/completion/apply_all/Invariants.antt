@@ -1,3 +1,4 @@
+-- What each turn of the loops of `apply_all` keeps.
 use Rattle.std.proofs.Common.{◌≡◌, length, drop}
 use Rattle.node_defs.specs.Ledger.{after_outcomes}
 use Rattle.txn_core.specs.States.{state_of}

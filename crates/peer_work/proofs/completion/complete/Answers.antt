@@ -1,3 +1,4 @@
+-- What the check of `complete` leaves to show.
 use Rattle.std.proofs.Common.{List, sym, ◌∙◌, subst}
 use Rattle.txn_types.specs.declared.txn.Txn.{Txn}
 use Rattle.hash_ledger.specs.Ledgers.{AllFit}

@@ -1,3 +1,4 @@
+-- What each turn of the loops of `nones` keeps.
 use Rattle.std.proofs.Common.{◌≡◌, None, replicate}
 use Rattle.peer_work.proofs.opened.nones.Given as goal
 

@@ -1,3 +1,4 @@
+-- What each turn of the loops of `own_of` keeps.
 use Rattle.std.proofs.Common.{◌≡◌, ◌<◌, ℕ, false, length, get_or}
 use Rattle.known_defs.specs.Known.{txn_at}
 use Rattle.node_defs.specs.Rules.{Rules}

@@ -1,3 +1,4 @@
+-- What the check of `take_up` leaves to show.
 use Rattle.newblock_quorum.specs.Entries.{blocks_of}
 use Rattle.txn_core.specs.MeantTable.{table_of}
 use Rattle.peer_work.proofs.Openings.{well_opened}

@@ -1,3 +1,4 @@
+-- What the check of `find` leaves to show.
 use Rattle.std.proofs.Common.{List, [], Option, ◌≡◌, length, sym, ◌∙◌, subst, refl}
 use Rattle.std.proofs.lemmas.List.{length-map}
 use Rattle.txn_types.specs.declared.txn.Outcome.{Outcome}

@@ -1,3 +1,4 @@
+-- What the check of `work_on` leaves to show.
 use Rattle.std.proofs.Common.{length, sym, ◌∙◌}
 use Rattle.std.proofs.lemmas.List.{length-map}
 use Rattle.node_defs.specs.Rules.{rules_of, in_force_behind}

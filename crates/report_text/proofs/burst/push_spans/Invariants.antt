@@ -1,6 +1,7 @@
+-- What each turn of the loops of `push_spans` keeps.
 use Rattle.std.proofs.Common.{◌≡◌, ◌++◌, map, take}
 use Rattle.std.specs.List.{flat_map}
-use Rattle.board_work.specs.Plans.{span_of}
+use Rattle.board_work.specs.Spans.{span_of}
 use Rattle.report_text.specs.BurstText.{span_line}
 use Rattle.report_text.proofs.burst.push_spans.Given as goal
 

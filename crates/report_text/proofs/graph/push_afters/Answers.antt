@@ -1,3 +1,4 @@
+-- What the check of `push_afters` leaves to show.
 use Rattle.std.proofs.Common.{arith}
 use Rattle.report_text.proofs.LineSteps.{goes_on, afters_next}
 use Rattle.report_text.proofs.graph.push_afters.Goals as goal

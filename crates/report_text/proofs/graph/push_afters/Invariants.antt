@@ -1,3 +1,4 @@
+-- What each turn of the loops of `push_afters` keeps.
 use Rattle.std.proofs.Common.{◌≡◌, ◌+◌, ◌++◌, drop}
 use Rattle.node_defs.specs.GraphText.{after_lines}
 use Rattle.txn_core.specs.MeantTable.{table_of}

@@ -1,3 +1,4 @@
+-- What the check of `push_graph_block` leaves to show.
 use Rattle.std.proofs.Common.{length, ap, sym, ◌∙◌}
 use Rattle.txn_core.proofs.GraphLemmas.{length-graph_of}
 use Rattle.report_text.proofs.graph.push_graph_block.Goals as goal

@@ -1,3 +1,4 @@
+-- What each turn of the loops of `push_numbers` keeps.
 use Rattle.std.proofs.Common.{◌≡◌, ◌+◌, ◌++◌, take}
 use Rattle.std.specs.Prelude.{codes, decimal}
 use Rattle.std.specs.List.{flat_map}

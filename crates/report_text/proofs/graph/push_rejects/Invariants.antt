@@ -1,3 +1,4 @@
+-- What each turn of the loops of `push_rejects` keeps.
 use Rattle.std.proofs.Common.{◌≡◌, ◌++◌, take}
 use Rattle.std.specs.List.{flat_map}
 use Rattle.node_defs.specs.Text.{rejected_line}

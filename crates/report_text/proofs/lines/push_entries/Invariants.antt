@@ -1,6 +1,7 @@
+-- What each turn of the loops of `push_entries` keeps.
 use Rattle.std.proofs.Common.{◌≡◌, ◌++◌, length}
 use Rattle.std.specs.List.{AllByRecursion}
-use Rattle.oxii_defs.specs.Table.{IsRecord}
+use Rattle.oxii_defs.specs.Lawful.{IsRecord}
 use Rattle.oxii_defs.specs.Lines.{entries_text}
 use Rattle.txn_core.specs.MeantTable.{table_of}
 use Rattle.report_text.proofs.lines.push_entries.Given as goal

@@ -1,3 +1,4 @@
+-- What the check of `push_txns` leaves to show.
 use Rattle.std.proofs.Common.{arith}
 use Rattle.report_text.proofs.LineSteps.{goes_on, txns_next}
 use Rattle.report_text.proofs.lines.push_txns.Goals as goal

@@ -1,3 +1,4 @@
+-- What each turn of the loops of `push_txns` keeps.
 use Rattle.std.proofs.Common.{◌≡◌, ◌+◌, ◌++◌, drop}
 use Rattle.oxii_defs.specs.Lines.{txn_lines}
 use Rattle.txn_core.specs.MeantTable.{table_of}

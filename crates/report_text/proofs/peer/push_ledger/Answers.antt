@@ -1,3 +1,4 @@
+-- What the check of `push_ledger` leaves to show.
 use Rattle.std.proofs.Common.{◌∙◌, ap, length, arith}
 use Rattle.report_text.proofs.LineSteps.{goes_on}
 use Rattle.report_text.proofs.Entries.{lawful_block, whole_block, entries_next}

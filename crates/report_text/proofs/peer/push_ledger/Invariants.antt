@@ -1,3 +1,4 @@
+-- What each turn of the loops of `push_ledger` keeps.
 use Rattle.std.proofs.Common.{◌≡◌, ◌++◌, drop}
 use Rattle.std.specs.List.{flat_map}
 use Rattle.oxii_defs.specs.Lines.{entry_lines}

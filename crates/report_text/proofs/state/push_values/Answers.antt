@@ -1,3 +1,4 @@
+-- What the check of `push_values` leaves to show.
 use Rattle.std.proofs.Common.{arith}
 use Rattle.report_text.proofs.LineSteps.{goes_on, lines_next}
 use Rattle.report_text.proofs.state.push_values.Goals as goal

@@ -1,3 +1,4 @@
+-- What each turn of the loops of `push_values` keeps.
 use Rattle.std.proofs.Common.{◌≡◌, ◌++◌, drop}
 use Rattle.oxii_defs.specs.Lines.{value_lines}
 use Rattle.txn_core.specs.States.{state_of}

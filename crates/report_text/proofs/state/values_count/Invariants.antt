@@ -1,3 +1,4 @@
+-- What each turn of the loops of `values_count` keeps.
 use Rattle.std.proofs.Common.{◌≡◌, ◌≤◌, ◌+◌, drop}
 use Rattle.oxii_defs.specs.Lines.{values_count}
 use Rattle.txn_core.specs.States.{state_of}

@@ -1,3 +1,4 @@
+-- What the check of `give_all` leaves to show.
 use Rattle.std.specs.Prelude.{◌≡◌, ◌<◌, suc, ◌+◌, length}
 use Rattle.std.proofs.Common.{subst, arith}
 use Rattle.world_laws.proofs.Turns.{AllUpTo, turns_all, turns_left, turns_more}

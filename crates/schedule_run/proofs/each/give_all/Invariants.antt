@@ -1,3 +1,4 @@
+-- What each turn of the loops of `give_all` keeps.
 use Rattle.std.specs.Prelude.{◌-◌}
 use Rattle.world_laws.proofs.Turns.{AllUpTo, most_turns}
 use Rattle.schedule_run.proofs.each.give_all.Given as goal

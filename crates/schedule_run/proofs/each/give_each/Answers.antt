@@ -1,3 +1,4 @@
+-- What the check of `give_each` leaves to show.
 use Rattle.std.specs.Prelude.{◌≡◌, ◌<◌, suc, ◌+◌, length, get_or, slice_set, refl}
 use Rattle.std.proofs.Common.{◌∙◌, ap, subst, arith}
 use Rattle.world_laws.specs.Shown.{Gave}

@@ -1,3 +1,4 @@
+-- What each turn of the loops of `give_each` keeps.
 use Rattle.world_laws.proofs.Giving.{Giving}
 use Rattle.schedule_run.proofs.each.give_each.Given as goal
 

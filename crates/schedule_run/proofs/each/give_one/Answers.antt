@@ -1,3 +1,4 @@
+-- What the check of `give_one` leaves to show.
 use Rattle.std.specs.Prelude.{suc, ◌≡◌, ◌<◌, ◌-◌, ◌++◌, map, length, get_or, slice_set, is_some, not, false}
 use Rattle.std.proofs.Common.{sym, ◌∙◌, ap, subst, arith, inl, inr, ◌⊎◌}
 use Rattle.std.specs.List.{AllByRecursion}

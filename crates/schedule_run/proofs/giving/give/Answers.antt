@@ -1,3 +1,4 @@
+-- What the check of `give` leaves to show.
 use Rattle.std.specs.Prelude.{◌≡◌, Some, refl}
 use Rattle.std.proofs.Common.{sym, ◌∙◌, ap, subst}
 use Rattle.node_defs.specs.Log.{Letter}

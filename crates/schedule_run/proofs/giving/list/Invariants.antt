@@ -1,3 +1,4 @@
+-- What each turn of the loops of `list` keeps.
 use Rattle.std.proofs.Common.{◌≡◌, ◌++◌, length, map, reverse}
 use Rattle.world_laws.specs.Deliveries.{burst_at}
 use Rattle.schedule_run.proofs.giving.list.Given as goal

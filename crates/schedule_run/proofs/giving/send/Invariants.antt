@@ -1,3 +1,4 @@
+-- What each turn of the loops of `send` keeps.
 use Rattle.std.proofs.Common.{◌≡◌, ◌++◌, length, map, reverse}
 use Rattle.node_defs.specs.World.{said_by}
 use Rattle.schedule_run.proofs.giving.send.Given as goal

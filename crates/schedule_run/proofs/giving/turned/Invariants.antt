@@ -1,3 +1,4 @@
+-- What each turn of the loops of `turned` keeps.
 use Rattle.std.proofs.Common.{◌≡◌, ◌++◌, length, reverse}
 use Rattle.schedule_run.proofs.giving.turned.Given as goal
 

@@ -1,3 +1,4 @@
+-- What the check of `all` leaves to show.
 use Rattle.std.specs.Prelude.{◌≡◌, ◌∷◌, [], length, false}
 use Rattle.std.proofs.Common.{sym, ap, subst, arith}
 use Rattle.txn_types.specs.declared.event.Event.TheVariants as event

@@ -1,3 +1,4 @@
+-- What the check of `happen` leaves to show.
 use Rattle.std.specs.Prelude.{◌∷◌, []}
 use Rattle.std.proofs.Common.{sym, ◌∙◌, ap, subst}
 use Rattle.txn_types.specs.declared.event.Event.TheVariants as event

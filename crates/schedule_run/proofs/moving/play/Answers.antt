@@ -1,3 +1,4 @@
+-- What the check of `play` leaves to show.
 use Rattle.std.proofs.Common.{subst, arith}
 use Rattle.std.proofs.lemmas.List.{take_all}
 use Rattle.world_laws.specs.Worlds.{Follows}

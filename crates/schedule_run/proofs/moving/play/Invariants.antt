@@ -1,3 +1,4 @@
+-- What each turn of the loops of `play` keeps.
 use Rattle.std.proofs.Common.{take}
 use Rattle.world_laws.specs.Worlds.{Follows, IsWellKept}
 use Rattle.schedule_run.specs.Scenes.{world_of}

@@ -1,3 +1,4 @@
+-- What the check of `said` leaves to show.
 use Rattle.std.specs.Prelude.{List, [], ◌∷◌, ◌++◌, ◌+◌}
 use Rattle.std.proofs.Common.{◌∙◌, ap}
 use Rattle.node_defs.specs.Log.{Letter}

@@ -1,3 +1,4 @@
+-- What the check of `say_commit` leaves to show.
 use Rattle.std.specs.Prelude.{◌∷◌, []}
 use Rattle.std.proofs.Common.{sym, subst, arith}
 use Rattle.txn_types.specs.declared.message.Message.TheVariants as message

@@ -1,3 +1,4 @@
+-- What each turn of the loops of `calls_of` keeps.
 use Rattle.std.proofs.Common.{◌≡◌, ◌++◌, drop}
 use Rattle.world_laws.specs.Sayings.{txns_named}
 use Rattle.schedule_run.proofs.sayings.calls_of.Given as goal

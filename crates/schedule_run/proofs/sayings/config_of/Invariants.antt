@@ -1,3 +1,4 @@
+-- What each turn of the loops of `config_of` keeps.
 use Rattle.std.proofs.Common.{◌≡◌, drop}
 use Rattle.world_laws.specs.Sayings.{config_named}
 use Rattle.schedule_run.proofs.sayings.config_of.Given as goal

@@ -1,3 +1,4 @@
+-- What each turn of the loops of `copy_pieces` keeps.
 use Rattle.std.proofs.Common.{◌≡◌, take}
 use Rattle.schedule_run.proofs.start.copy_pieces.Given as goal
 

@@ -1,3 +1,4 @@
+-- What each turn of the loops of `first_pool` keeps.
 use Rattle.std.proofs.Common.{◌≡◌, ◌++◌, drop}
 use Rattle.node_defs.specs.World.{first_pool}
 use Rattle.world_laws.specs.Starts.{nodes_of}

@@ -1,3 +1,4 @@
+-- What each turn of the loops of `hashes_of` keeps.
 use Rattle.std.proofs.Common.{◌≡◌, ◌++◌, drop, map}
 use Rattle.oxii_defs.specs.BlockBytes.{block_hash}
 use Rattle.txn_core.specs.MeantTable.{table_of}

@@ -1,3 +1,4 @@
+-- What the check of `new_slots` leaves to show.
 use Rattle.std.specs.Prelude.{◌≡◌, ◌+◌, suc, length}
 use Rattle.std.proofs.Common.{ap, subst, arith}
 use Rattle.txn_core.specs.States.{state_of}

@@ -1,3 +1,4 @@
+-- What each turn of the loops of `new_slots` keeps.
 use Rattle.txn_core.specs.States.{state_of}
 use Rattle.world_laws.specs.Starts.{AreNewSlots}
 use Rattle.schedule_run.proofs.start.new_slots.Given as goal

@@ -1,3 +1,4 @@
+-- What the check of `send_block` leaves to show.
 use Rattle.std.specs.Prelude.{◌≡◌, ◌+◌, ◌++◌, ◌∷◌, [], suc, length}
 use Rattle.std.proofs.Common.{sym, ◌∙◌, ap, subst, arith}
 use Rattle.world_laws.specs.Starts.{nodes_of}

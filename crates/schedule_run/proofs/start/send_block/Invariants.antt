@@ -1,3 +1,4 @@
+-- What each turn of the loops of `send_block` keeps.
 use Rattle.std.proofs.Common.{length}
 use Rattle.world_laws.specs.Starts.{nodes_of}
 use Rattle.world_laws.proofs.Starting.{Sending}

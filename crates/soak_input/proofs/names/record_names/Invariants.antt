@@ -1,3 +1,4 @@
+-- What each turn of the loops of `record_names` keeps.
 use Rattle.std.proofs.Common.{◌≡◌, map}
 use Rattle.std.specs.List.{range_with_len}
 use Rattle.soak_input.specs.Generator.{record_name}

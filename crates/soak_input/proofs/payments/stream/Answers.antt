@@ -1,3 +1,4 @@
+-- What the check of `stream` leaves to show.
 use Rattle.std.proofs.Common.{◌∙◌, ◌+◌, ◌-◌, arith}
 use Rattle.soak_input.proofs.StreamSteps.{stream_more}
 use Rattle.soak_input.proofs.payments.stream.Goals as goal

@@ -1,3 +1,4 @@
+-- What each turn of the loops of `stream` keeps.
 use Rattle.std.proofs.Common.{◌≡◌, ◌-◌, ◌++◌}
 use Rattle.soak_input.specs.Generator.{stream_behind}
 use Rattle.soak_input.proofs.payments.stream.Given as goal

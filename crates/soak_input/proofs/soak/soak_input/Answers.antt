@@ -1,3 +1,4 @@
+-- What the check of `soak_input` leaves to show.
 use Rattle.txn_core.specs.MeantTable.{table_of}
 use Rattle.soak_input.proofs.MadeLawful.{made_lawful}
 use Rattle.soak_input.proofs.MadeWhole.{made_of}

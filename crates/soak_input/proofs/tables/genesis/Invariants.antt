@@ -1,3 +1,4 @@
+-- What each turn of the loops of `genesis` keeps.
 use Rattle.std.proofs.Common.{◌≡◌, replicate}
 use Rattle.soak_input.proofs.tables.genesis.Given as goal
 

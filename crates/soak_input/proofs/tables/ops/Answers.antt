@@ -1,3 +1,4 @@
+-- What the check of `ops` leaves to show.
 use Rattle.std.proofs.Common.{map}
 use Rattle.txn_core.specs.Meant.{op_of}
 use Rattle.soak_input.proofs.PayMeant.{memory_alone, pay_alone}

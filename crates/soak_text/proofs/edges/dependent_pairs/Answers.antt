@@ -1,3 +1,4 @@
+-- What the check of `dependent_pairs` leaves to show.
 use Rattle.std.proofs.Common.{◌≤◌, ℕ, List, length, sym, subst}
 use Rattle.std.specs.List.{sum_by}
 use Rattle.soak_text.proofs.Pairs.{pairs_few}

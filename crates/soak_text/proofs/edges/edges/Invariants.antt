@@ -1,3 +1,4 @@
+-- What each turn of the loops of `edges` keeps.
 use Rattle.std.proofs.Common.{◌≡◌, ◌≤◌, ◌*◌, take}
 use Rattle.std.specs.List.{sum_by}
 use Rattle.soak_text.specs.Summary.{dependent_pairs}

@@ -1,3 +1,4 @@
+-- What each turn of the loops of `pairs_of` keeps.
 use Rattle.std.proofs.Common.{◌≡◌, length, take}
 use Rattle.std.specs.List.{sum_by}
 use Rattle.soak_text.proofs.edges.pairs_of.Given as goal

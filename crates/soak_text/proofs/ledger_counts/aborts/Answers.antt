@@ -1,3 +1,4 @@
+-- What the check of `aborts` leaves to show.
 use Rattle.std.proofs.Common.{rules, arith, not}
 use Rattle.std.specs.List.{count_by}
 use Rattle.std.proofs.lemmas.Grind.{common_steps}

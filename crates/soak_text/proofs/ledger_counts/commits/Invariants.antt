@@ -1,3 +1,4 @@
+-- What each turn of the loops of `commits` keeps.
 use Rattle.std.proofs.Common.{◌≡◌, ◌≤◌, ◌*◌, take}
 use Rattle.std.specs.List.{sum_by, count_by}
 use Rattle.soak_text.specs.Summary.{is_commit}

@@ -1,3 +1,4 @@
+-- What the check of `tip` leaves to show.
 use Rattle.std.proofs.Common.{◌∙◌, ◌-◌, arith}
 use Rattle.txn_core.specs.MeantTable.{table_of}
 use Rattle.soak_text.proofs.Tips.{block_lawful, tip_is}

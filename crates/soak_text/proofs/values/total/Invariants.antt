@@ -1,3 +1,4 @@
+-- What each turn of the loops of `total` keeps.
 use Rattle.std.proofs.Common.{◌≡◌, ◌≤◌, ◌*◌, take}
 use Rattle.std.specs.List.{sum}
 use Rattle.soak_text.proofs.values.total.Given as goal

@@ -1,3 +1,4 @@
+-- What the check of `empty_deques` leaves to show.
 use Rattle.steal_pool.proofs.HintMoves.{begins}
 use Rattle.steal_pool.proofs.deques.empty_deques.Goals as goal
 

@@ -1,3 +1,4 @@
+-- What each turn of the loops of `empty_deques` keeps.
 use Rattle.std.proofs.Common.{◌≡◌, length}
 use Rattle.steal_pool.proofs.deques.empty_deques.Given as goal
 

@@ -1,3 +1,4 @@
+-- What the check of `next_hint` leaves to show.
 use Rattle.steal_pool.proofs.HintMoves.{takes, pops}
 use Rattle.steal_pool.proofs.deques.next_hint.Goals as goal
 

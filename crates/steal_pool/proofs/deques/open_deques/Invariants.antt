@@ -1,3 +1,4 @@
+-- What each turn of the loops of `open_deques` keeps.
 use Rattle.std.proofs.Common.{◌≡◌, length}
 use Rattle.steal_pool.proofs.deques.open_deques.Given as goal
 

@@ -1,3 +1,4 @@
+-- What the check of `push_hints` leaves to show.
 use Rattle.std.proofs.Common.{◌<◌, get_or, List, ℕ, subst}
 use Rattle.board_core.specs.Counts.{times}
 use Rattle.steal_pool.proofs.HintMoves.{pushes, all_one, stands_in}

@@ -1,3 +1,4 @@
+-- What the check of `steal_hint` leaves to show.
 use Rattle.steal_pool.proofs.HintMoves.{takes, admits}
 use Rattle.steal_pool.proofs.deques.steal_hint.Goals as goal
 

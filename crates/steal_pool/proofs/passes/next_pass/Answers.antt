@@ -1,3 +1,4 @@
+-- What the check of `next_pass` leaves to show.
 use Rattle.std.proofs.Common.{◌<◌}
 use Rattle.board_core.specs.Counts.{times}
 use Rattle.steal_pool.proofs.PassLemmas.{popped}

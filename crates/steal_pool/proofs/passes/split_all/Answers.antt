@@ -1,3 +1,4 @@
+-- What the check of `split_all` leaves to show.
 use Rattle.std.proofs.Common.{sym, subst, arith}
 use Rattle.steal_pool.specs.Passes.{AreSplit}
 use Rattle.steal_pool.proofs.PassLemmas.{one_split, none_split}

@@ -1,3 +1,4 @@
+-- What each turn of the loops of `split_all` keeps.
 use Rattle.steal_pool.specs.Passes.{AreSplit}
 use Rattle.steal_pool.proofs.passes.split_all.Given as goal
 

@@ -1,3 +1,4 @@
+-- What the check of `burst` leaves to show.
 use denote.Param.Send.{sendable}
 use Rattle.txn_core.proofs.TableSync.{table_sync}
 use Rattle.steal_pool.proofs.pool.burst.Goals as goal

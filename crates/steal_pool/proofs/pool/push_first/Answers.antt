@@ -1,3 +1,4 @@
+-- What the check of `push_first` leaves to show.
 use Rattle.std.proofs.Common.{subst}
 use Rattle.board_work.specs.Plans.{plan_of}
 use Rattle.steal_pool.specs.Hints.{IsOwn}

@@ -1,3 +1,4 @@
+-- What the check of `run_hired` leaves to show.
 use Rattle.std.proofs.Common.{arith}
 use Rattle.steal_pool.proofs.PassLemmas.{taken_in, workers_below}
 use Rattle.steal_pool.proofs.RunOutcomes.{all_fit}

@@ -1,3 +1,4 @@
+-- What the check of the closures of `run_all` leaves to show.
 use Rattle.steal_pool.proofs.PassLemmas.{joined_tried, joined_numbers}
 use Rattle.steal_pool.proofs.threads.+fn-run_all-join+arg3+run_all.Goals as goal
 

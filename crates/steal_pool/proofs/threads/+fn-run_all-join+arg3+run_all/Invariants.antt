@@ -1,3 +1,4 @@
+-- What each turn of the loops of `+fn-run_all-join+arg3+run_all` keeps.
 use Rattle.std.proofs.Common.{◌+◌, ◌*◌, length}
 use Rattle.steal_pool.proofs.threads.+fn-run_all-join+arg3+run_all.Given as goal
 

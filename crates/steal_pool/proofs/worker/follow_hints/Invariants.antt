@@ -1,3 +1,4 @@
+-- What each turn of the loops of `follow_hints` keeps.
 use Rattle.std.proofs.Common.{◌≡◌, []}
 use Rattle.steal_pool.specs.Passes.{GoesOn, IsIdle}
 use Rattle.steal_pool.proofs.worker.follow_hints.Given as goal

@@ -1,3 +1,4 @@
+-- What the check of `try_duties` leaves to show.
 use Rattle.std.proofs.Common.{◌≡◌, subst, ap, true, length}
 use Rattle.board_defs.specs.Closure.{is_own}
 use Rattle.board_work.specs.PassStates.{Home}

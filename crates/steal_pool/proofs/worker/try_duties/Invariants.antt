@@ -1,3 +1,4 @@
+-- What each turn of the loops of `try_duties` keeps.
 use Rattle.std.proofs.Common.{◌≡◌, [], length}
 use Rattle.steal_pool.specs.Passes.{GoesOn, IsIdle}
 use Rattle.steal_pool.proofs.DutyLemmas.{left}

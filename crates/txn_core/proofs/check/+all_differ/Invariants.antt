@@ -1,3 +1,4 @@
+-- What each turn of the loops of `+all_differ` keeps.
 use Rattle.std.proofs.Common.{length}
 use Rattle.txn_core.proofs.check.+all_differ.Given as goal
 

@@ -1,3 +1,4 @@
+-- What the check of the functions that call each other leaves to show.
 use Rattle.std.proofs.Common.{arith, ap, sym, ◌∙◌}
 use Rattle.txn_core.specs.Meant.{stmt_of, stmts_of}
 use Rattle.txn_core.specs.Slots.{weights}

@@ -1,3 +1,4 @@
+-- What each turn of the loops of `+checks` keeps.
 use Rattle.std.proofs.Common.{◌+◌, ◌*◌}
 use Rattle.txn_core.specs.Meant.{stmt_of, stmts_of}
 use Rattle.txn_core.specs.Slots.{weight, weights}

@@ -1,3 +1,4 @@
+-- What each turn of the loops of `+is_named` keeps.
 use Rattle.std.proofs.Common.{length}
 use Rattle.txn_core.proofs.check.+is_named.Given as goal
 

@@ -1,3 +1,4 @@
+-- What each turn of the loops of `+is_param` keeps.
 use Rattle.std.proofs.Common.{length}
 use Rattle.txn_core.proofs.check.+is_param.Given as goal
 

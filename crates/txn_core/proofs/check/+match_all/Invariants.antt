@@ -1,3 +1,4 @@
+-- What each turn of the loops of `+match_all` keeps.
 use Rattle.std.proofs.Common.{length}
 use Rattle.txn_core.proofs.check.+match_all.Given as goal
 

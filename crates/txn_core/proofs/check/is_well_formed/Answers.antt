@@ -1,3 +1,4 @@
+-- What the check of `is_well_formed` leaves to show.
 use Rattle.std.proofs.Common.{◌≡◌, ◌≤◌, true, false, length, map, arith}
 use Rattle.std.proofs.lemmas.List.{length-map}
 use Rattle.txn_core.specs.Meant.{formal_of, op_of}

@@ -1,3 +1,4 @@
+-- What the check of `takes` leaves to show.
 use Rattle.std.proofs.Common.{map}
 use Rattle.txn_core.specs.Meant.{formal_of}
 use Rattle.txn_core.proofs.CheckLemmas.{match_decides}

@@ -1,3 +1,4 @@
+-- What the check of `first_bit` leaves to show.
 use Rattle.std.proofs.Common.{arith}
 use Rattle.txn_core.proofs.TouchLemmas.{none_left, first_within, none_before}
 use Rattle.txn_core.proofs.earlier.first_bit.Goals as goal

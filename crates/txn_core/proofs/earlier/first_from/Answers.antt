@@ -1,3 +1,4 @@
+-- What the check of `first_from` leaves to show.
 use Rattle.std.proofs.Common.{◌+◌, ◌∷◌, cond, drop, ap, sym, ◌∙◌, arith}
 use Rattle.std.proofs.lemmas.List.{get_or_default}
 use Rattle.oxii_defs.specs.Dependency.{depends, preds_from}

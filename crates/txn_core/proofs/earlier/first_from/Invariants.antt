@@ -1,3 +1,4 @@
+-- What each turn of the loops of `first_from` keeps.
 use Rattle.std.proofs.Common.{◌≡◌, ◌-◌, drop, length}
 use Rattle.oxii_defs.specs.Dependency.{preds_from}
 use Rattle.txn_core.proofs.earlier.first_from.Given as goal

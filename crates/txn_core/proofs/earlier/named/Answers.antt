@@ -1,3 +1,4 @@
+-- What the check of `named` leaves to show.
 use Rattle.std.proofs.Common.{◌≡◌, ◌/◌, ◌%◌, arith}
 use Rattle.std.specs.Int.{bit_at}
 use Rattle.txn_core.proofs.TouchLemmas.{at_word}

@@ -1,3 +1,4 @@
+-- What each turn of the loops of `+statements` keeps.
 use Rattle.std.proofs.Common.{◌≡◌, ◌≤◌, ◌-◌, ◌+◌, ◌*◌, length, drop}
 use Rattle.oxii_defs.specs.Running.{after_all, turns, scoped}
 use Rattle.txn_core.specs.Meant.{stmt_of, stmts_of}

@@ -1,3 +1,4 @@
+-- What each turn of the loops of `+are_left` keeps.
 use Rattle.std.proofs.Common.{length}
 use Rattle.txn_core.proofs.graph.+are_left.Given as goal
 

@@ -1,3 +1,4 @@
+-- What each turn of the loops of `+stands_in` keeps.
 use Rattle.std.proofs.Common.{length}
 use Rattle.txn_core.proofs.graph.+stands_in.Given as goal
 

@@ -1,3 +1,4 @@
+-- What the check of `is_graph` leaves to show.
 use Rattle.std.proofs.Common.{◌<◌, ◌+◌, List, [], length, refl, sym, ap, ◌∙◌, arith}
 use Rattle.std.specs.List.{slice_index_or}
 use Rattle.std.proofs.lemmas.List.{drop_all, get_or_default}

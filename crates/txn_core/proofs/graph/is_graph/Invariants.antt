@@ -1,3 +1,4 @@
+-- What each turn of the loops of `is_graph` keeps.
 use Rattle.std.proofs.Common.{◌≡◌, ◌↔◌, length, drop}
 use Rattle.oxii_defs.specs.Dependency.{graph_of}
 use Rattle.txn_core.proofs.graph.is_graph.Given as goal

@@ -1,3 +1,4 @@
+-- What each turn of the loops of `records_len` keeps.
 use Rattle.std.proofs.Common.{◌≡◌, ◌+◌, ◌*◌, ◌≤◌, length, take}
 use Rattle.std.specs.List.{flat_map}
 use Rattle.oxii_defs.specs.BlockBytes.{name_bytes, record_name}

@@ -1,3 +1,4 @@
+-- What the check of `run_txn` leaves to show.
 use Rattle.std.proofs.Common.{◌∙◌, sym, ap, subst}
 use Rattle.txn_types.specs.declared.txn.Outcome.TheVariants.{Commit}
 use Rattle.txn_types.specs.Fitting.{Fits}

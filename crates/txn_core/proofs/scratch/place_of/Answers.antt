@@ -1,3 +1,4 @@
+-- What the check of `place_of` leaves to show.
 use Rattle.std.proofs.Common.{◌∙◌}
 use Rattle.txn_core.proofs.WrittenLemmas.{position_is_place}
 use Rattle.txn_core.proofs.scratch.place_of.Goals as goal

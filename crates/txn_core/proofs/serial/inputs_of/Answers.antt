@@ -1,3 +1,4 @@
+-- What the check of `inputs_of` leaves to show.
 use Rattle.std.proofs.Common.{◌≤◌, sym, slice_index, subst}
 use Rattle.txn_types.specs.Values.{max_value}
 use Rattle.txn_core.proofs.StateLemmas.{input_is, value_small}

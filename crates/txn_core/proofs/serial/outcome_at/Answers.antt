@@ -1,3 +1,4 @@
+-- What the check of `outcome_at` leaves to show.
 use Rattle.std.proofs.Common.{◌∙◌, sym, ap}
 use Rattle.oxii_defs.specs.Table.{body_of}
 use Rattle.oxii_defs.specs.Outcomes.{outcome}

@@ -1,3 +1,4 @@
+-- What the check of `put` leaves to show.
 use Rattle.txn_core.proofs.StateLemmas.{state_of-set}
 use Rattle.txn_core.proofs.serial.put.Goals as goal
 

@@ -1,3 +1,4 @@
+-- What the check of `put_all` leaves to show.
 use Rattle.std.proofs.Common.{◌<◌, ◌∙◌, arith, length}
 use Rattle.txn_core.proofs.StateLemmas.{put_next, fit_length}
 use Rattle.txn_core.proofs.serial.put_all.Goals as goal

@@ -1,3 +1,4 @@
+-- What each turn of the loops of `put_all` keeps.
 use Rattle.std.proofs.Common.{◌≡◌, length, drop}
 use Rattle.oxii_defs.specs.Outcomes.{put_all}
 use Rattle.txn_core.specs.States.{state_of}

@@ -1,5 +1,6 @@
+-- What each turn of the loops of `run_serial` keeps.
 use Rattle.std.proofs.Common.{◌≡◌, ◌++◌, length, drop}
-use Rattle.oxii_defs.specs.Outcomes.{serial_state, serial_outcomes}
+use Rattle.oxii_defs.specs.SerialPart.{serial_state, serial_outcomes}
 use Rattle.txn_core.specs.MeantTable.{table_of}
 use Rattle.txn_core.specs.States.{state_of}
 use Rattle.txn_core.proofs.serial.run_serial.Given as goal

@@ -1,3 +1,4 @@
+-- What the check of `values_at` leaves to show.
 use Rattle.std.proofs.Common.{◌<◌, ◌∙◌, sym, ap, arith, [], ◌∷◌, ◌++◌, length, slice_index, take, map}
 use Rattle.std.proofs.lemmas.List.{take_more, take_more_set, map-append}
 use Rattle.std.proofs.Math.ListN.{length-set}

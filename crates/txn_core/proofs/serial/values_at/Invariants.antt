@@ -1,3 +1,4 @@
+-- What each turn of the loops of `values_at` keeps.
 use Rattle.std.proofs.Common.{◌≡◌, length, map, take, slice_index}
 use Rattle.txn_core.proofs.serial.values_at.Given as goal
 

@@ -1,3 +1,4 @@
+-- What the check of `with_bit` leaves to show.
 use Rattle.std.specs.Int.{w64}
 use Rattle.std.proofs.lemmas.Nat.Bits.{bit_at_set_same}
 use Rattle.txn_core.proofs.TouchLemmas.{bit_or_left}

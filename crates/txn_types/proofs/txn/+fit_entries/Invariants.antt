@@ -1,3 +1,4 @@
+-- What each turn of the loops of `+fit_entries` keeps.
 use Rattle.std.proofs.Common.{length}
 use Rattle.txn_types.proofs.txn.+fit_entries.Given as goal
 

@@ -1,3 +1,4 @@
+-- What the check of `place_of` leaves to show.
 use Rattle.std.proofs.Common.{arith}
 use Rattle.version_slots.proofs.PlaceLemmas.{place_found, place_missing}
 use Rattle.version_slots.proofs.walk.place_of.Goals as goal

@@ -1,3 +1,4 @@
+-- What each turn of the loops of `place_of` keeps.
 use Rattle.std.proofs.Common.{◌≢◌, ◌<◌, ℕ, slice_index}
 use Rattle.version_slots.proofs.walk.place_of.Given as goal
 

@@ -1,3 +1,4 @@
+-- What the check of `BlockCutter::add` leaves to show.
 use Rattle.txn_core.specs.MeantTable.{table_of}
 use Rattle.block_cutter.specs.Standing.{block_of}
 use Rattle.std.proofs.Common.{[], ◌++◌, arith}

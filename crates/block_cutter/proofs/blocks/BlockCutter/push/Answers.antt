@@ -1,3 +1,4 @@
+-- What the check of `BlockCutter::push` leaves to show.
 use Rattle.std.proofs.Common.{◌≡◌, ◌+◌, List, [], ◌∷◌, ◌++◌, arith, ap, ◌∙◌}
 use Rattle.txn_types.specs.declared.txn.Txn.{Txn}
 use Rattle.txn_core.specs.MeantTable.{table_of}

@@ -1,7 +1,8 @@
+-- What the check of `Cutter::take` leaves to show.
 use Rattle.std.proofs.Common.{[], ◌∷◌, ◌++◌, Some, subst}
 use Rattle.txn_types.specs.declared.stream.Item.{Item}
 use Rattle.oxii_defs.specs.Lawful.{IsLawfulConfig}
-use Rattle.node_defs.specs.Admission.{IsLawfulItem}
+use Rattle.node_defs.specs.LawfulItems.{IsLawfulItem}
 use Rattle.node_defs.specs.Cutting.{admitted, mark_comes}
 use Rattle.txn_core.specs.MeantTable.{table_of}
 use Rattle.block_cutter.specs.Standing.{block_of, StandsBefore}

@@ -1,3 +1,4 @@
+-- What the check of `Frame::close` leaves to show.
 use Rattle.std.proofs.Common.{◌∙◌}
 use Rattle.board_frame.proofs.StateFacts.{open_none, positions_told}
 use Rattle.board_frame.proofs.frame.Frame.close.Goals as goal

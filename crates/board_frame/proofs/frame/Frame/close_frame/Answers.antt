@@ -1,3 +1,4 @@
+-- What the check of `Frame::close_frame` leaves to show.
 use Rattle.std.proofs.Common.{◌≡◌, ◌∙◌, ◌<◌, ◌+◌, arith, ap, sym, subst, List, ℕ, length, true}
 use Rattle.std.specs.Mem.Slots.{slots_items}
 use Rattle.board_defs.specs.Closure.{IsLawfulPlan, is_own}
@@ -8,7 +9,7 @@ use Rattle.board_steps.specs.Abouts.{told}
 use Rattle.board_work.specs.Scripts.{script_of, word_of, outcome_at, writes_at}
 use Rattle.std.proofs.Common.{map}
 use Rattle.board_defs.specs.Closure.{Plan, run_outcomes}
-use Rattle.board_work.specs.Plans.{span_of}
+use Rattle.board_work.specs.Spans.{span_of}
 use Rattle.script_laws.specs.Placed.{placed}
 use Rattle.board_words.specs.Runs.{run_at}
 use Rattle.board_frame.proofs.Closed.{word_is, cells_long, last_is, outcomes_are, closes_by}

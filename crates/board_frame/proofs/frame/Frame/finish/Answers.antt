@@ -1,3 +1,4 @@
+-- What the check of `Frame::finish` leaves to show.
 use Rattle.std.proofs.Common.{◌≡◌, sym, subst}
 use Rattle.board_frame.specs.Seen.{Seen, home_of, state_of_view, pass_state}
 use Rattle.board_work.specs.PassStates.{Home, Ended}

@@ -1,3 +1,4 @@
+-- What the check of `Frame::finish_at` leaves to show.
 use Rattle.std.proofs.Common.{◌≡◌, ◌<◌, refl, ap, ◌∙◌, sym, subst, Some, true}
 use Rattle.known_defs.specs.Known.{txn_at}
 use Rattle.board_defs.specs.Closure.{is_own}

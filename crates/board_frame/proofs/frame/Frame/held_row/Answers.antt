@@ -1,3 +1,4 @@
+-- What the check of `Frame::held_row` leaves to show.
 use Rattle.std.proofs.Common.{subst}
 use Rattle.board_steps.specs.Abouts.{told}
 use Rattle.board_words.specs.Filled.{AreRows}

@@ -1,3 +1,4 @@
+-- What the check of `Frame::held_txn` leaves to show.
 use Rattle.std.proofs.Common.{◌∙◌, ap, length, arith}
 use Rattle.board_steps.specs.Abouts.{told}
 use Rattle.board_words.proofs.Filling.{txn_there}

@@ -1,3 +1,4 @@
+-- What the check of `Frame::holds` leaves to show.
 use Rattle.board_steps.specs.Abouts.{told}
 use Rattle.board_frame.proofs.FrameFacts.{held_below, held_comes, settled_by}
 use Rattle.board_frame.proofs.frame.Frame.holds.Goals as goal

@@ -1,3 +1,4 @@
+-- What the check of `Frame::inputs` leaves to show.
 use Rattle.board_frame.specs.Seen.{home_of}
 use Rattle.board_frame.proofs.StateFacts.{held_is}
 use Rattle.board_frame.proofs.frame.Frame.inputs.Goals as goal

@@ -1,3 +1,4 @@
+-- What the check of `Frame::inputs_at` leaves to show.
 use Rattle.std.proofs.Common.{◌≡◌, ◌<◌, ◌∙◌, ap, subst, get_or, length, ℕ, arith}
 use Rattle.txn_types.specs.declared.txn.Txn.{Txn}
 use Rattle.board_core.specs.Script.{serial_value}

@@ -1,3 +1,4 @@
+-- What the check of `Frame::join` leaves to show.
 use Rattle.std.proofs.Common.{◌≡◌, ◌∙◌, sym, ap}
 use Rattle.board_frame.specs.Seen.{Seen, home_of, state_of_view}
 use Rattle.board_work.specs.PassStates.{Home, joined_state}

@@ -1,3 +1,4 @@
+-- What the check of `Frame::join_passes` leaves to show.
 use Rattle.std.proofs.Common.{◌≡◌, ◌<◌, ℕ, List, Option, None, ap, sym, subst, ◌∙◌, arith, length, get_or, cond, min}
 use Rattle.std.specs.Prelude.{is_some}
 use Rattle.board_work.specs.declared.plan.Span.{Span}

@@ -1,3 +1,4 @@
+-- What each turn of the loops of `Frame::least_untried` keeps.
 use Rattle.std.proofs.Common.{◌<◌, ℕ}
 use Rattle.board_core.specs.Counts.{times}
 use Rattle.board_frame.proofs.frame.Frame.least_untried.Given as goal

@@ -1,3 +1,4 @@
+-- What the check of `Frame::open` leaves to show.
 use Rattle.std.proofs.Common.{◌≡◌, ◌∙◌, ap}
 use Rattle.std.proofs.lemmas.Result.{IfOk-weaker}
 use Rattle.oxii_defs.specs.Dependency.{graph_of}

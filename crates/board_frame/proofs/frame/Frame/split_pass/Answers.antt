@@ -1,3 +1,4 @@
+-- What the check of `Frame::split_pass` leaves to show.
 use Rattle.std.proofs.Common.{◌≡◌, ◌<◌, ◌≤◌, ap, sym, subst, ◌∙◌, arith, length, rules}
 use Rattle.std.proofs.lemmas.List.{length-replicate}
 use Rattle.board_defs.specs.Closure.{Plan}

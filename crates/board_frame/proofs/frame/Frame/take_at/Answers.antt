@@ -1,3 +1,4 @@
+-- What the check of `Frame::take_at` leaves to show.
 use Rattle.std.proofs.Common.{◌≡◌, ◌+◌, length, ap, ◌∙◌, sym, subst, arith, true, set}
 use Rattle.board_defs.specs.Closure.{Plan, is_own}
 use Rattle.board_core.specs.declared.view.View.{View}

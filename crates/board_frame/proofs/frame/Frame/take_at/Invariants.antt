@@ -1,3 +1,4 @@
+-- What each turn of the loops of `Frame::take_at` keeps.
 use Rattle.board_steps.specs.Abouts.{scripted}
 use Rattle.board_frame.proofs.frame.Frame.take_at.Given as goal
 

@@ -1,3 +1,4 @@
+-- What the check of `all_own` leaves to show.
 use Rattle.std.proofs.Common.{◌∙◌, ◌++◌, ◌∷◌, [], ap, true}
 use Rattle.std.proofs.lemmas.List.{replicate_more}
 use Rattle.board_rows.proofs.tests.settings.all_own.Goals as goal

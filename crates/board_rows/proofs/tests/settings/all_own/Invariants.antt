@@ -1,3 +1,4 @@
+-- What each turn of the loops of `all_own` keeps.
 use Rattle.std.proofs.Common.{◌≡◌, replicate, true}
 use Rattle.board_rows.proofs.tests.settings.all_own.Given as goal
 

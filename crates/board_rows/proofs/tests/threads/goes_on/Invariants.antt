@@ -1,3 +1,4 @@
+-- What each turn of the loops of `goes_on` keeps.
 use Rattle.std.proofs.Common.{◌≡◌}
 use Rattle.board_work.specs.PassStates.{IsOf, IsFree}
 use Rattle.board_rows.proofs.tests.threads.goes_on.Given as goal

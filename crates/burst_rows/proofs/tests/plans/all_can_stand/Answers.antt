@@ -1,3 +1,4 @@
+-- What the check of `all_can_stand` leaves to show.
 use Rattle.std.proofs.Common.{◌≡◌, refl, subst, arith, ⊎_elim}
 use Rattle.std.proofs.lemmas.Bool.{cases_lt}
 use Rattle.burst_rows.specs.Standing.{CanStand}

@@ -1,3 +1,4 @@
+-- What each turn of the loops of `all_can_stand` keeps.
 use Rattle.std.proofs.Common.{ℕ, ◌<◌}
 use Rattle.burst_rows.specs.Standing.{CanStand}
 use Rattle.burst_rows.proofs.tests.plans.all_can_stand.Given as goal

@@ -1,3 +1,4 @@
+-- What the check of `run` leaves to show.
 use Rattle.std.proofs.Common.{refl, arith}
 use Rattle.burst_rows.proofs.Runnable.{runnable}
 use Rattle.burst_rows.proofs.tests.plans.run.Goals as goal

@@ -1,3 +1,4 @@
+-- What each turn of the loops of `letters` keeps.
 use Rattle.std.proofs.Common.{◌≡◌, [], ◌∷◌, map}
 use Rattle.std.specs.List.{range_with_len}
 use Rattle.cutting_rows.proofs.tests.bank.letters.Given as goal

@@ -1,3 +1,4 @@
+-- What the check of `stream_table` leaves to show.
 use Rattle.std.proofs.Common.{map}
 use Rattle.txn_core.specs.MeantTable.{app_of}
 use Rattle.cutting_rows.proofs.StreamTable.{lawful_parts}

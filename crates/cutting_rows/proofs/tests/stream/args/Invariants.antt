@@ -1,5 +1,6 @@
+-- What each turn of the loops of `args` keeps.
 use Rattle.std.specs.List.{All}
-use Rattle.node_defs.specs.Admission.{IsRequestArg}
+use Rattle.node_defs.specs.LawfulItems.{IsRequestArg}
 use Rattle.txn_core.specs.MeantTable.{table_of}
 use Rattle.cutting_rows.proofs.tests.stream.args.Given as goal
 

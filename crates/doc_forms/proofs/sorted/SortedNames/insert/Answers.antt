@@ -1,3 +1,4 @@
+-- What the check of `SortedNames::insert` leaves to show.
 use Rattle.std.proofs.Common.{arith, subst, sym}
 use Rattle.doc_forms.specs.Sorted.{IsGap}
 use Rattle.doc_forms.proofs.Search.{sorted_after}

@@ -1,3 +1,4 @@
+-- What the check of `SortedNames::search` leaves to show.
 use Rattle.std.proofs.Common.{rules}
 use Rattle.std.proofs.lemmas.Fn.{always_returns_same}
 use Rattle.doc_forms.specs.Sorted.{order}

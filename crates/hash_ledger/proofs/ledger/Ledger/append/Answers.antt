@@ -1,3 +1,4 @@
+-- What the check of `Ledger::append` leaves to show.
 use Rattle.hash_ledger.proofs.LedgerLemmas.{linked_after}
 use Rattle.hash_ledger.proofs.ledger.Ledger.append.Goals as goal
 

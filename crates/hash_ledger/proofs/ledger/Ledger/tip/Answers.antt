@@ -1,3 +1,4 @@
+-- What the check of `Ledger::tip` leaves to show.
 use Rattle.std.proofs.Common.{ap, ◌∙◌}
 use Rattle.hash_ledger.specs.Ledgers.{tip_of}
 use Rattle.hash_ledger.proofs.LedgerLemmas.{tip_is}

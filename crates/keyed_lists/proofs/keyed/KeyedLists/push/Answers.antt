@@ -1,3 +1,4 @@
+-- What the check of `KeyedLists::push` leaves to show.
 use Rattle.std.proofs.Common.{◌∷◌, [], ◌++◌, ◌∙◌, sym, ap, subst, is_some}
 use Rattle.std.specs.BTreeMap.{get}
 use Rattle.std.specs.Map.{set_value}

@@ -1,3 +1,4 @@
+-- What the check of `Inbox::count` leaves to show.
 use Rattle.std.proofs.Common.{ℕ, ap, refl, subst, sym, ◌∙◌}
 use Rattle.std.specs.Ordering.{nat_cmp}
 use Rattle.keyed_lists.specs.Keyed.{IsPushed}

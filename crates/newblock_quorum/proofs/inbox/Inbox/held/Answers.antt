@@ -1,3 +1,4 @@
+-- What the check of `Inbox::held` leaves to show.
 use Rattle.std.proofs.lemmas.Option.{IfSome_then}
 use Rattle.newblock_quorum.proofs.Held.{is_held}
 use Rattle.newblock_quorum.proofs.inbox.Inbox.held.Goals as goal

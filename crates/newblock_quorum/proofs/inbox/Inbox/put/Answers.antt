@@ -1,3 +1,4 @@
+-- What the check of `Inbox::put` leaves to show.
 use Rattle.std.proofs.Common.{ℕ, ◌≡◌, IsNone, IfSome, Option, Some, sym, subst, ◌∙◌, ap}
 use Rattle.std.specs.Option.{is_some}
 use Rattle.std.proofs.lemmas.Bool.{true≢false}

@@ -1,3 +1,4 @@
+-- What the check of `Inbox::ready` leaves to show.
 use Rattle.std.proofs.Common.{Contains, Some, ap, subst, sym, ◌∙◌}
 use Rattle.std.specs.Option.{option_map}
 use Rattle.txn_types.specs.declared.block.Block.{Block}

@@ -1,3 +1,4 @@
+-- What the check of `Inbox::received` leaves to show.
 use Rattle.std.proofs.Common.{List, ap, subst, sym, ◌∙◌}
 use Rattle.std.specs.List.{All}
 use Rattle.keyed_lists.proofs.Numbers.{list_at-number}

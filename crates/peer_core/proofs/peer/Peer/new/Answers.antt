@@ -1,3 +1,4 @@
+-- What the check of `Peer::new` leaves to show.
 use Rattle.std.specs.Prelude.{◌≡◌, ◌≤◌, ℕ, List, [], length, None, refl}
 use Rattle.std.proofs.Common.{sym, ◌∙◌, ap, subst, arith}
 use Rattle.txn_core.specs.declared.table.Table.{Table}

@@ -1,3 +1,4 @@
+-- What the check of `Peer::take` leaves to show.
 use Rattle.std.specs.Prelude.{◌≡◌, true, is_some}
 use Rattle.std.proofs.Common.{sym, ◌∙◌, subst}
 use Rattle.peer_turns.specs.Peers.{KeptPeer}

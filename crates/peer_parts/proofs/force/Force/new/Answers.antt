@@ -1,3 +1,4 @@
+-- What the check of `Force::new` leaves to show.
 use Rattle.std.proofs.Common.{List, ℕ, ◌++◌, ◌∷◌, ◌<◌, map, sym, ◌∙◌, ap, subst, arith, []}
 use Rattle.std.specs.List.{All}
 use Rattle.std.proofs.lemmas.List.{take_all}

@@ -1,3 +1,4 @@
+-- What each turn of the loops of `heard` keeps.
 use Rattle.std.proofs.Common.{◌≡◌}
 use Rattle.peer_rows.proofs.tests.answers.heard.Given as goal
 

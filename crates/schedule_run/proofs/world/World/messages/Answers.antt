@@ -1,3 +1,4 @@
+-- What the check of `World::messages` leaves to show.
 use Rattle.std.proofs.Common.{arith}
 use Rattle.world_laws.proofs.Reaching.{few_messages}
 use Rattle.schedule_run.proofs.world.World.messages.Goals as goal

@@ -1,3 +1,4 @@
+-- What the check of `World::new` leaves to show.
 use Rattle.std.specs.Prelude.{[]}
 use Rattle.std.proofs.Common.{sym, subst}
 use Rattle.txn_core.specs.MeantTable.{table_of}

@@ -1,3 +1,4 @@
+-- What the check of `World::run` leaves to show.
 use Rattle.std.proofs.Common.{sym, subst}
 use Rattle.world_laws.specs.Worlds.{CanTake, Follows}
 use Rattle.schedule_run.specs.Scenes.{world_of}

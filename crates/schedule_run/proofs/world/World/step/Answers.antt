@@ -1,3 +1,4 @@
+-- What the check of `World::step` leaves to show.
 use Rattle.std.specs.Prelude.{◌∷◌, []}
 use Rattle.std.proofs.Common.{sym, subst}
 use Rattle.world_laws.specs.Worlds.{CanTake, Follows}

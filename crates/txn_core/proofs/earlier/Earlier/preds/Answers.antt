@@ -1,3 +1,4 @@
+-- What the check of `Earlier::preds` leaves to show.
 use Rattle.std.proofs.Common.{◌<◌, length, [], sym, ap, ◌∙◌, arith}
 use Rattle.std.specs.List.{slice_index_or}
 use Rattle.std.proofs.lemmas.List.{length-take-le}

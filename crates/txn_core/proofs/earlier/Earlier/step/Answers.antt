@@ -1,3 +1,4 @@
+-- What the check of `Earlier::step` leaves to show.
 use Rattle.std.proofs.Common.{◌<◌, length, ap, subst, arith}
 use Rattle.txn_core.specs.Touching.{Part, IsEntered}
 use Rattle.txn_types.specs.declared.txn.Txn.{Txn}

@@ -1,3 +1,4 @@
+-- What the check of `Graph::checked` leaves to show.
 use Rattle.std.proofs.Common.{length, sym, ◌∙◌, ap, subst, arith}
 use Rattle.txn_core.specs.Graphs.{ArePreds}
 use Rattle.txn_core.proofs.GraphLemmas.{graph_preds}

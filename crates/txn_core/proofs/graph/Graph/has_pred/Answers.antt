@@ -1,3 +1,4 @@
+-- What the check of `Graph::has_pred` leaves to show.
 use Rattle.std.proofs.Common.{◌∙◌, ℕ, List, ap}
 use Rattle.oxii_defs.specs.State.{contains}
 use Rattle.txn_core.proofs.SearchLemmas.{searched_is}

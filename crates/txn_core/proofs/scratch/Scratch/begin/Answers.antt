@@ -1,3 +1,4 @@
+-- What the check of `Scratch::begin` leaves to show.
 use Rattle.std.proofs.Common.{[]}
 use Rattle.txn_core.proofs.WrittenLemmas.{none_written}
 use Rattle.txn_core.proofs.scratch.Scratch.begin.Goals as goal

@@ -1,3 +1,4 @@
+-- What the check of `Scratch::depth` leaves to show.
 use Rattle.std.proofs.Common.{arith}
 use Rattle.std.proofs.lemmas.List.{length-take}
 use Rattle.txn_core.proofs.scratch.Scratch.depth.Goals as goal

@@ -1,3 +1,4 @@
+-- What the check of `Scratch::set_local` leaves to show.
 use Rattle.std.proofs.Common.{◌<◌, arith}
 use Rattle.std.proofs.Math.Seq.{take-set-lt}
 use Rattle.std.proofs.lemmas.List.{length-take}

@@ -1,3 +1,4 @@
+-- What the check of `Scratch::write` leaves to show.
 use Rattle.std.proofs.Common.{◌≡◌, ◌≤◌, length, Some, None, arith, refl}
 use Rattle.txn_core.specs.Frames.{place}
 use Rattle.txn_core.proofs.WrittenLemmas.{set-written_of, contains_is}

@@ -1,3 +1,4 @@
+-- What each turn of the loops of `Scratch::writes` keeps.
 use Rattle.std.proofs.Common.{◌≡◌, ◌≤◌, length, map, take}
 use Rattle.std.specs.FinMap as map
 use Rattle.txn_core.proofs.scratch.Scratch.writes.Given as goal

@@ -1,3 +1,4 @@
+-- What the check of `Scratch::written` leaves to show.
 use Rattle.std.proofs.Common.{ap, sym, ◌∙◌, ◌≡◌, ◌≤◌, length, Some, None, arith}
 use Rattle.txn_core.specs.Frames.{place}
 use Rattle.txn_core.proofs.WrittenLemmas.{get-written_of, found}

@@ -1,3 +1,4 @@
+-- What the check of `Table::app` leaves to show.
 use Rattle.txn_core.proofs.TableNames.{app_name_at, app_ops_at}
 use Rattle.txn_core.proofs.table.Table.app.Goals as goal
 

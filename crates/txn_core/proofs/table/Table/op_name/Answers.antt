@@ -1,3 +1,4 @@
+-- What the check of `Table::op_name` leaves to show.
 use Rattle.std.proofs.Common.{arith, ap, length}
 use Rattle.txn_core.proofs.TableNames.{op_name_at, op_count}
 use Rattle.txn_core.proofs.table.Table.op_name.Goals as goal

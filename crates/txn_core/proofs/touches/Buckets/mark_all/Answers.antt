@@ -1,3 +1,4 @@
+-- What the check of `Buckets::mark_all` leaves to show.
 use Rattle.std.proofs.Common.{ℕ, List, subst, arith}
 use Rattle.std.specs.List.{All}
 use Rattle.std.proofs.lemmas.List.{take_all}

@@ -1,3 +1,4 @@
+-- What each turn of the loops of `Buckets::mark_all` keeps.
 use Rattle.std.proofs.Common.{take}
 use Rattle.std.specs.List.{All}
 use Rattle.txn_core.specs.Touching.{IsMarked, Grows}

@@ -1,3 +1,4 @@
+-- What the check of `Buckets::union` leaves to show.
 use Rattle.std.proofs.Common.{ℕ, List, get_or, subst, ap, arith}
 use Rattle.std.proofs.lemmas.List.{take_all}
 use Rattle.txn_core.specs.Touching.{Unites}

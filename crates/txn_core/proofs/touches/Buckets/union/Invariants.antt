@@ -1,3 +1,4 @@
+-- What each turn of the loops of `Buckets::union` keeps.
 use Rattle.std.proofs.Common.{take}
 use Rattle.txn_core.specs.Touching.{Unites}
 use Rattle.txn_core.proofs.touches.Buckets.union.Given as goal

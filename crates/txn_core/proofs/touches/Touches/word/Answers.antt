@@ -1,3 +1,4 @@
+-- What the check of `Touches::word` leaves to show.
 use Rattle.std.proofs.Common.{◌≡◌, true, ℕ, List, subst}
 use Rattle.txn_types.specs.declared.txn.Kind.{Kind}
 use Rattle.oxii_defs.specs.Dependency.{depends}

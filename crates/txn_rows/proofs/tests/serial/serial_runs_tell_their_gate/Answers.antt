@@ -1,3 +1,4 @@
+-- What the check of `serial_runs_tell_their_gate` leaves to show.
 use Rattle.txn_core.specs.MeantTable.{table_of}
 use Rattle.txn_rows.proofs.SetLawful.{txns_lawful}
 use Rattle.txn_rows.proofs.tests.serial.serial_runs_tell_their_gate.Goals as goal

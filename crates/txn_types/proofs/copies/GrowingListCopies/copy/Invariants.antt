@@ -1,3 +1,4 @@
+-- What each turn of the loops of `GrowingListCopies::copy` keeps.
 use Rattle.std.proofs.Common.{◌≡◌, take}
 use Rattle.txn_types.proofs.copies.GrowingListCopies.copy.Given as goal
 

@@ -1,3 +1,4 @@
+-- What the check of `Slots::given_by` leaves to show.
 use Rattle.std.proofs.Common.{◌≡◌, ◌∙◌, ap, sym, subst, arith, true, None}
 use Rattle.oxii_defs.specs.State.{contains}
 use Rattle.board_work.specs.Scripts.{reads_at, writes_at, outcome_at, gives}

@@ -1,3 +1,4 @@
+-- What the check of `Slots::inputs_at` leaves to show.
 use Rattle.std.proofs.Common.{◌≡◌, ◌∙◌, ◌<◌, ℕ, ap, subst, arith, true, length, get_or}
 use Rattle.txn_types.specs.declared.txn.Txn.{Txn}
 use Rattle.oxii_defs.specs.State.{contains}

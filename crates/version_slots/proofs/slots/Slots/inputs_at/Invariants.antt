@@ -1,3 +1,4 @@
+-- What each turn of the loops of `Slots::inputs_at` keeps.
 use Rattle.std.proofs.Common.{◌≡◌, ◌<◌, ℕ, get_or, length}
 use Rattle.oxii_defs.specs.State.{value_in}
 use Rattle.board_steps.specs.Abouts.{told}

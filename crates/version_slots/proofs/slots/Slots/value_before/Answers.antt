@@ -1,3 +1,4 @@
+-- What the check of `Slots::value_before` leaves to show.
 use Rattle.std.proofs.Common.{◌≡◌, ◌∙◌, ap, sym, subst, arith, true, length, get_or}
 use Rattle.oxii_defs.specs.State.{contains, value_in}
 use Rattle.txn_core.proofs.StateLemmas.{value_of_state}

@@ -1,3 +1,4 @@
+-- What each turn of the loops of `Slots::value_before` keeps.
 use Rattle.std.proofs.Common.{◌≡◌, ◌-◌}
 use Rattle.board_core.specs.Script.{serial_value}
 use Rattle.board_steps.specs.Abouts.{told}

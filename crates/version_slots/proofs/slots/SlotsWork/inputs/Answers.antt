@@ -1,3 +1,4 @@
+-- What the check of `SlotsWork::inputs` leaves to show.
 use Rattle.board_frame.specs.Seen.{home_of}
 use Rattle.board_frame.proofs.StateFacts.{held_is}
 use Rattle.version_slots.proofs.slots.SlotsWork.inputs.Goals as goal
