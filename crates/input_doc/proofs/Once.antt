@@ -1,4 +1,4 @@
--- Of meaning and fault there is exactly one.
+-- Of meaning and fault there is exactly one, and what is meant is lawful.
 use Rattle.std.proofs.Common.{◌≡◌, ◌⊎◌, ℕ, List, Result, Ok, Err, refl, sym, ◌∙◌, inl, inr}
 use Rattle.doc_forms.specs.Faults.{Fault}
 use Rattle.input_doc.specs.Inputs.{Input}
@@ -8,7 +8,7 @@ use Rattle.input_doc.specs.Means.{Means}
 use Rattle.input_doc.specs.ExactlyOne.{ExactlyOne}
 use Rattle.input_doc.specs.FirstFaults.{HasFault}
 use Rattle.input_doc.proofs.Judges.{fault_read, has_fault}
-use Rattle.input_doc.proofs.Whole.{reading_means, reading_reads}
+use Rattle.input_doc.proofs.Whole.{reading_means, reading_reads, reading_is_lawful}
 
 abbrev read_as : Input → Result Input Fault
 read_as input = Ok input
@@ -35,4 +35,5 @@ exactly_one bytes = record {
   not_both = λ input fault means is. not_both input fault (sym (reading_reads bytes input means) ∙ fault_read bytes fault is);
   one_meaning = λ input other means also. same_input input other (sym (reading_reads bytes input means) ∙ reading_reads bytes other also);
   one_fault = λ fault other is also. same_fault fault other (sym (fault_read bytes fault is) ∙ fault_read bytes other also);
+  lawful = λ input means. reading_is_lawful bytes input (reading_reads bytes input means);
 }

@@ -70,7 +70,7 @@ pub fn read_input(alloc: Global, bytes: &[u8]) -> Result<Input, DocFault>
     ensures meaning { IfOk result (λ input. Means bytes.now (input_of input)) }
     // A fault is the first one, at its place; want of memory alone is free.
     ensures fault { IfErr result (λ f. (f ≡ fault.OutOfMemory) ⊎ IsFaultOf bytes.now f) }
-    // Each document has either a meaning or a fault, and one of it.
+    // Each document has either a meaning or a fault, and one of it; what it means is lawful.
     ensures exactly_one { ExactlyOne bytes.now }
     // All that the calls that are given an input ask for.
     ensures lawful { IfOk result (λ input. IsLawfulInput (input_of input)) }

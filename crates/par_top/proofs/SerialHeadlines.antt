@@ -3,9 +3,7 @@ use Rattle.std.specs.Prelude.{ℕ, ◌≡◌, Bool, true, false, List, [], Optio
 use Rattle.std.specs.Io.KnownBytes.{Appends}
 use Rattle.std.proofs.Common.{subst}
 use Rattle.input_doc.specs.Inputs.{Input}
-use Rattle.input_doc.specs.LawfulInputs.{IsLawfulInput}
-use Rattle.input_doc.specs.Means.{Means}
-use Rattle.input_doc.proofs.Whole.{reading_reads, reading_is_lawful}
+use Rattle.input_doc.proofs.Once.{exactly_one}
 use Rattle.par_words.specs.declared.command.Command.TheVariants.{Run}
 use Rattle.par_top.specs.Traced.{IsTraceText}
 use Rattle.par_top.specs.Texts.{IsHeadline}
@@ -15,10 +13,6 @@ use Rattle.par_top.proofs.WorldLemmas.{serial_is}
 no_trace : (workers : ℕ) (traced : Bool) (input : Input) (lines : List ℕ) → IsTraceText traced workers input lines → traced ≡ false → lines ≡ []
 no_trace workers true input lines is asked = cc
 no_trace workers false input lines is asked = is
-
--- what a document means is lawful
-lawful_of : (bytes : List ℕ) (input : Input) → Means bytes input → IsLawfulInput input
-lawful_of bytes input means = reading_is_lawful bytes input (reading_reads bytes input means)
 
 -- where the whole text was written, and the input is tame, it is one of serial runs
 pub serial_headline : (workers : ℕ) (traced : Bool) (rest_old rest_new written_old written_new : Option (List ℕ)) → IsHeadline (Run workers traced) rest_old rest_new written_old written_new → IsSerialHeadline traced rest_old rest_new written_old written_new
@@ -32,5 +26,5 @@ serial_headline workers traced rest_old rest_new written_old written_new h =
       means = h.read.document.means;
       written = subst (Appends written_old written_new) printed.whole h.written;
       untraced = no_trace workers traced h.read.input printed.trace printed.bursts;
-      serial = serial_is h.read.input printed.text (lawful_of h.read.document.bytes h.read.input h.read.document.means) printed.world;
+      serial = serial_is h.read.input printed.text ((exactly_one h.read.document.bytes).lawful h.read.input h.read.document.means) printed.world;
     }
