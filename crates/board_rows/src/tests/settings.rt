@@ -85,7 +85,8 @@ pub fn set_up(alloc: Global, text: &str) -> Result<Setting, Fail>
     ensures { IfOk result (λ s. IsSet s.table s.base s.block s.graph s.known s.own) }
 {
     let document = setting_of(alloc, text)?;
-    let Some(txns) = last_txns(&document.table, document.bodies) else {
+    let bodies = document.bodies;
+    let Some(txns) = last_txns(&document.table, bodies) else {
         return Err(Fail::new("no block of transactions"));
     };
     let block = Block {

@@ -1,7 +1,7 @@
 // The five notes of a message.
 
-use super::answers::answered;
 use super::documents::NOTES;
+use peer_tables::answered;
 use std::test::Fail;
 
 #[test]

@@ -1,11 +1,11 @@
 // Messages that tell right readings from wrong ones.
 
-use super::answers::answered;
 use super::documents::{
     ACCEPTED_IS_FIRST_TO_REACH, AGREED_IS_FIRST_TO_REACH, HALTED_CHANGES_NOTHING,
     LOWEST_POSITION_IS_NAMED, ONE_APP_CHANGES, OWN_VOTE_BEHIND_EARLIER, OWN_VOTE_BEHIND_ITS_CAUSE,
     RUNS_IN_ORDER_OF_READINESS, THRESHOLD_IN_FORCE,
 };
+use peer_tables::answered;
 use std::test::Fail;
 
 #[test]

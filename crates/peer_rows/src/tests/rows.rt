@@ -1,10 +1,10 @@
 // Worked rows.
 
-use super::answers::{answered, in_force};
 use super::documents::{
     CHANGE_OF_AGENTS, FALSE_MAJORITY, LATE_BLOCK, ONE_APP_CHANGES, ONE_OF_TWO_AGENTS,
     REPEATED_VOTE, SCATTERED, THRESHOLD_IN_FORCE, UNFIT_VOTES,
 };
+use peer_tables::{answered, in_force};
 use std::test::Fail;
 
 #[test]

@@ -1,9 +1,9 @@
-// What a peer answers and holds, as rows write it.
-//
-// An answer is a note, then `; runs 1 1 3` for each block of which positions ran, then `; sends 1 1=6,4` for each COMMIT, whose
-// votes are written as in messages.
-// What it holds are the blocks of its ledger, each with its hash, its configuration and an outcome for each transaction, the value
-// of each record, and `halted 1 2 writes [2] ran 3 voted 7` for position 2 of block 1. Here applications, agents and records are numbers from 0.
+//! What a peer answers and holds, as rows write it.
+//!
+//! An answer is a note, then `; runs 1 1 3` for each block of which positions ran, then `; sends 1 1=6,4` for each COMMIT, whose
+//! votes are written as in messages.
+//! What it holds are the blocks of its ledger, each with its hash, its configuration and an outcome for each transaction, the value
+//! of each record, and `halted 1 2 writes [2] ran 3 voted 7` for position 2 of block 1. Here applications, agents and records are numbers from 0.
 
 use peer_core::{BlockSpans, Peer, Took};
 use std::alloc::{AllocError, Global};

@@ -1,16 +1,16 @@
-// A peer that is handed messages one after another.
+//! A peer that is handed messages one after another.
 
 ghost use Rattle.std.specs.Prelude.{◌≡◌, ◌<◌, length, IfOk};
 ghost use Rattle.std.specs.List.{All};
 ghost use Rattle.oxii_defs.specs.Lawful.{IsLawfulBody, IsLawfulTable};
 ghost use Rattle.txn_core.specs.MeantTable.{table_of};
 
-use super::letters::letter;
-use super::lines::{push_answer, push_peer};
+use crate::Trouble;
+use crate::letters::letter;
+use crate::lines::{push_answer, push_peer};
 use peer_core::Peer;
 use row_settings::{Setting, setting_of};
 use std::alloc::Global;
-use std::test::Fail;
 use std::thread::Threads;
 use txn_core::FreeGate;
 
@@ -22,7 +22,7 @@ fn hear<'t, R: Threads + Sync>(
     peer: Peer<'t>,
     row: &str,
     text: &mut String,
-) -> Result<Peer<'t>, Fail>
+) -> Result<Peer<'t>, Trouble>
     requires table { peer.table ≡ setting.now.table }
     requires bodies { All (λ body. IsLawfulBody (table_of setting.now.table) body.txns body.config) setting.now.bodies }
     ensures { IfOk result (λ peer. peer.table ≡ setting.now.table) }
@@ -41,7 +41,7 @@ fn heard<'t, R: Threads + Sync>(
     me: u8,
     rows: &str,
     text: &mut String,
-) -> Result<Peer<'t>, Fail>
+) -> Result<Peer<'t>, Trouble>
     requires table { IsLawfulTable (table_of setting.now.table) }
     requires genesis { length setting.now.genesis ≡ length setting.now.table.records }
     requires bodies { All (λ body. IsLawfulBody (table_of setting.now.table) body.txns body.config) setting.now.bodies }
@@ -67,12 +67,12 @@ pub fn answered<R: Threads + Sync>(
     document: &str,
     me: u8,
     table: &str,
-) -> Result<String, Fail> {
+) -> Result<String, Trouble> {
     let setting = setting_of(alloc, document)?;
     if usize::from(me) >= setting.table.peers.len() {
-        return Err("no such peer".into());
+        return Err(Trouble::NotThere);
     }
-    let (rows, _) = table.split_once("peer ").ok_or("no peer")?;
+    let (rows, _) = table.split_once("peer ").ok_or(Trouble::Row)?;
     let mut text = String::new(alloc);
     let peer = heard(rt, alloc, &setting, me, rows, &mut text)?;
     push_peer(alloc, &mut text, me, &peer)?;
@@ -86,10 +86,10 @@ pub fn in_force<R: Threads + Sync>(
     document: &str,
     rows: &str,
     app: u8,
-) -> Result<String, Fail> {
+) -> Result<String, Trouble> {
     let setting = setting_of(alloc, document)?;
     if usize::from(app) >= setting.table.apps.len() {
-        return Err("no such application".into());
+        return Err(Trouble::NotThere);
     }
     let mut text = String::new(alloc);
     let peer = heard(rt, alloc, &setting, 0, rows, &mut text)?;
