@@ -43,6 +43,7 @@ impl From<NoSetting> for Trouble {
         match none {
             NoSetting::Memory => Trouble::Memory,
             NoSetting::Fault => Trouble::Document,
+            NoSetting::NoBlock => Trouble::NotThere,
         }
     }
 }

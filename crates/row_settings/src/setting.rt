@@ -29,6 +29,8 @@ pub enum NoSetting {
     Memory,
     /// The document has a fault.
     Fault,
+    /// Its stream has no block of transactions where one is wanted.
+    NoBlock,
 }
 
 impl From<OutOfMemory> for NoSetting {

@@ -6,15 +6,14 @@ ghost use Rattle.oxii_defs.specs.Lawful.{IsLawfulBody};
 ghost use Rattle.txn_core.specs.MeantTable.{table_of};
 ghost use Rattle.board_defs.specs.Closure.{is_own};
 ghost use Rattle.board_work.specs.Plans.{IsRunnable, plan_of};
-ghost use Rattle.board_rows.specs.Settings.{IsSet, plan_with};
+ghost use Rattle.board_tables.specs.Settings.{IsSet, plan_with};
 
-use crate::tests::task::Task;
+use crate::task::Task;
 use board_words::no_outcomes;
 use board_work::{Own, Plan};
 use dep_graph::build;
-use row_settings::setting_of;
+use row_settings::{NoSetting, setting_of};
 use std::alloc::Global;
-use std::test::Fail;
 use txn_core::{Graph, Scratch, Table, op_named, run_txn};
 use txn_types::{Block, Bodies, Known, OutOfMemory, Outcome, Txns, Values};
 
@@ -81,13 +80,13 @@ fn last_txns(table: &Table, mut bodies: Bodies) -> Option<Txns>
 }
 
 /// The last block of a document, with its table and the values at the start.
-pub fn set_up(alloc: Global, text: &str) -> Result<Setting, Fail>
+pub fn set_up(alloc: Global, text: &str) -> Result<Setting, NoSetting>
     ensures { IfOk result (λ s. IsSet s.table s.base s.block s.graph s.known s.own) }
 {
     let document = setting_of(alloc, text)?;
     let bodies = document.bodies;
     let Some(txns) = last_txns(&document.table, bodies) else {
-        return Err(Fail::new("no block of transactions"));
+        return Err(NoSetting::NoBlock);
     };
     let block = Block {
         number: 1,
