@@ -1,12 +1,17 @@
 //! The rows of what several passes run a plan on, with ample memory.
 
-use board_tables::{
-    Setting, Want, anti_dependency, beside, in_two_threads, relay, set_up, writers, written,
-};
+mod calls;
+mod rows;
+mod threads;
+
+use board_settings::{Setting, set_up};
 use board_work::{Ran, Span};
+use calls::{Want, written};
 use ready_board::Board;
+use rows::{anti_dependency, beside, relay, writers};
 use std::process::Abort;
 use std::test::Fail;
+use threads::in_two_threads;
 use txn_types::Outcome;
 use version_slots::Slots;
 

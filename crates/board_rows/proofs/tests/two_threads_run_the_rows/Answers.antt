@@ -13,7 +13,7 @@ use Rattle.txn_types.specs.contracts.txn.Txn as txn
 use Rattle.txn_types.specs.contracts.txn.Outcome as outcome
 use Rattle.txn_core.specs.contracts.graph.Graph as graph
 use Rattle.txn_types.specs.contracts.values.Values as values
-use Rattle.board_tables.specs.contracts.settings.Setting as setting
+use Rattle.board_settings.specs.contracts.settings.Setting as setting
 use Rattle.board_rows.proofs.tests.two_threads_run_the_rows.Goals as goal
 
 txn_sync : IsSync txn.the_row

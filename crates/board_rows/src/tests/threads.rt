@@ -5,8 +5,8 @@ ghost use Rattle.board_defs.specs.Closure.{IsLawfulPlan, is_own};
 ghost use Rattle.board_work.specs.Plans.{IsRunnable, plan_of};
 ghost use Rattle.board_work.specs.PassStates.{IsOf, IsFree};
 
-use crate::calls::{Want, misses, runs};
-use crate::task::Task;
+use crate::tests::calls::{Want, misses, runs};
+use board_settings::Task;
 use board_work::{Plan, Ran, Take, Work};
 use std::alloc::Global;
 use std::process::Abort;

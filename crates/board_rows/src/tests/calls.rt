@@ -4,7 +4,7 @@ ghost use Rattle.std.specs.Prelude.{◌≡◌, ◌<◌, ◌∷◌, [], ℕ, true
 ghost use Rattle.board_defs.specs.Closure.{IsLawfulPlan, is_own};
 ghost use Rattle.board_work.specs.PassStates.{IsOf, IsFree};
 
-use crate::task::Task;
+use board_settings::Task;
 use board_work::{Made, Take, Work};
 use std::process::Abort;
 use txn_types::Outcome;

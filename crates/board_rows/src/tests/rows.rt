@@ -4,8 +4,8 @@ ghost use Rattle.std.specs.Prelude.{◌≡◌, ◌<◌, ℕ, length, true};
 ghost use Rattle.board_defs.specs.Closure.{is_own};
 ghost use Rattle.board_work.specs.Plans.{IsRunnable, plan_of};
 
-use crate::calls::{Want, misses, runs, takes};
-use crate::task::Task;
+use crate::tests::calls::{Want, misses, runs, takes};
+use board_settings::Task;
 use board_work::{Plan, Ran, Work};
 use std::alloc::Global;
 use std::process::Abort;

@@ -1,7 +1,7 @@
 -- What the check of `set_up` leaves to show.
 use Rattle.std.proofs.Common.{◌∙◌, ap, refl, replicate, true}
-use Rattle.board_tables.proofs.PlanLemmas.{is_set}
-use Rattle.board_tables.proofs.settings.set_up.Goals as goal
+use Rattle.board_settings.proofs.PlanLemmas.{is_set}
+use Rattle.board_settings.proofs.settings.set_up.Goals as goal
 
 pub returns : goal.returns
 returns c =

@@ -1,7 +1,7 @@
 -- What each turn of the loops of `goes_on` keeps.
 use Rattle.std.proofs.Common.{◌≡◌}
 use Rattle.board_work.specs.PassStates.{IsOf, IsFree}
-use Rattle.board_tables.proofs.threads.goes_on.Given as goal
+use Rattle.board_rows.proofs.tests.threads.goes_on.Given as goal
 
 abbrev pub invariant-loop-t : goal.invariant-loop-t
 invariant-loop-t g l =

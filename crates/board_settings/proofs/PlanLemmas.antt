@@ -11,7 +11,7 @@ use Rattle.oxii_defs.specs.Lawful.{IsLawfulTable, IsLawfulBody}
 use Rattle.txn_core.specs.MeantTable.{table_of}
 use Rattle.oxii_defs.specs.Dependency.{graph_of}
 use Rattle.txn_core.proofs.StateLemmas.{state_of-values}
-use Rattle.board_tables.specs.Settings.{IsSet}
+use Rattle.board_settings.specs.Settings.{IsSet}
 
 -- each position is to be run
 mine : (own : List Bool) (n t : ℕ) → own ≡ replicate n true → t < n → get_or own t false ≡ true

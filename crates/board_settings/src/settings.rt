@@ -6,7 +6,7 @@ ghost use Rattle.oxii_defs.specs.Lawful.{IsLawfulBody};
 ghost use Rattle.txn_core.specs.MeantTable.{table_of};
 ghost use Rattle.board_defs.specs.Closure.{is_own};
 ghost use Rattle.board_work.specs.Plans.{IsRunnable, plan_of};
-ghost use Rattle.board_tables.specs.Settings.{IsSet, plan_with};
+ghost use Rattle.board_settings.specs.Settings.{IsSet, plan_with};
 
 use crate::task::Task;
 use board_words::no_outcomes;
