@@ -55,7 +55,7 @@ fn push_outcome(alloc: Global, text: &mut String, outcome: &Outcome) -> Result<(
 }
 
 fn push_vote(alloc: Global, text: &mut String, vote: &Vote) -> Result<(), AllocError> {
-    push_number(alloc, text, " ", u64::from(vote.t) + 1)?;
+    push_number(alloc, text, " ", vote.t as u64 + 1)?;
     text.push_str("=")?;
     push_outcome(alloc, text, &vote.outcome)
 }
@@ -71,7 +71,7 @@ fn push_commit(alloc: Global, text: &mut String, commit: &Commit) -> Result<(), 
 fn push_spans(alloc: Global, text: &mut String, spans: &BlockSpans) -> Result<(), AllocError> {
     push_number(alloc, text, "; runs ", spans.n)?;
     for span in spans.spans.as_slice() {
-        push_number(alloc, text, " ", u64::from(span.t) + 1)?;
+        push_number(alloc, text, " ", span.t as u64 + 1)?;
     }
     Ok(())
 }
@@ -139,7 +139,7 @@ fn push_block(
 
 fn push_halted(alloc: Global, text: &mut String, split: &Split) -> Result<(), AllocError> {
     push_number(alloc, text, "halted ", split.n)?;
-    push_number(alloc, text, " ", u64::from(split.t) + 1)?;
+    push_number(alloc, text, " ", split.t as u64 + 1)?;
     text.push_str(" writes ")?;
     push_shown(alloc, text, &split.writes.as_slice())?;
     text.push_str(" ran ")?;
@@ -152,7 +152,7 @@ fn push_halted(alloc: Global, text: &mut String, split: &Split) -> Result<(), Al
 /// What a peer holds.
 pub fn push_peer(alloc: Global, text: &mut String, me: u8, peer: &Peer) -> Result<(), AllocError> {
     let ledger = peer.ledger();
-    push_number(alloc, text, "peer p", u64::from(me) + 1)?;
+    push_number(alloc, text, "peer p", me as u64 + 1)?;
     push_number(alloc, text, " completed ", ledger.len())?;
     text.push_str("\n")?;
     for i in 0..ledger.len() {
