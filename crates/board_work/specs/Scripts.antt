@@ -7,7 +7,7 @@ use Rattle.txn_types.specs.declared.txn.Outcome.TheVariants.{Abort, Commit}
 use Rattle.txn_types.specs.declared.txn.Txn.{Txn}
 use Rattle.txn_types.specs.Rising.{IsRising}
 use Rattle.oxii_defs.specs.State.{State, value_in, contains}
-use Rattle.oxii_defs.specs.Outcomes.{apply}
+use Rattle.oxii_defs.specs.Effects.{apply}
 use Rattle.oxii_defs.specs.Dependency.{depends}
 use Rattle.known_defs.specs.Known.{txn_at, after_known}
 use Rattle.board_defs.specs.Closure.{Plan, known_at, is_own, run_of, closure, closure_upto}

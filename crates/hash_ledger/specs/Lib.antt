@@ -6,7 +6,7 @@ pub use Rattle.oxii_defs.specs.BlockBytes
 pub use Rattle.oxii_defs.specs.Chain
 pub use Rattle.oxii_defs.specs.Lines
 pub use Rattle.oxii_defs.specs.State
-pub use Rattle.node_defs.specs.Rules
+pub use Rattle.node_defs.specs.Programs
 pub use Rattle.node_defs.specs.Accepted
 pub use Rattle.node_defs.specs.Ledger
 pub use Rattle.txn_core.specs.MeantTable

@@ -6,7 +6,7 @@ ghost use Rattle.oxii_defs.specs.Lawful.{IsLawfulBlock};
 ghost use Rattle.oxii_defs.specs.State.{State};
 ghost use Rattle.oxii_defs.specs.Table as meant;
 ghost use Rattle.node_defs.specs.Accepted.{tip};
-ghost use Rattle.node_defs.specs.Rules.{rules_of};
+ghost use Rattle.node_defs.specs.Programs.{rules_of};
 ghost use Rattle.txn_core.specs.MeantTable.{table_of};
 ghost use Rattle.hash_ledger.specs.Ledgers.{AllFit, AreHashed, completed_of, tip_of};
 

@@ -13,7 +13,7 @@ use Rattle.doc_forms.specs.Forms as form
 use Rattle.doc_forms.specs.Meaning.{HasOnly}
 use Rattle.doc_forms.proofs.Meant.{bind_ok, members_are, only_means, only_reads}
 use Rattle.node_defs.specs.Admission.{pieces_of}
-use Rattle.node_defs.specs.World.{setting_of}
+use Rattle.node_defs.specs.Programs.{setting_of}
 use Rattle.doc_tables.specs.AppsMeaning.{app_names}
 use Rattle.doc_tables.specs.Faulty.{faulty}
 use Rattle.doc_tables.specs.FaultyMeaning.{SaysFaulty}

@@ -6,7 +6,7 @@ use Rattle.txn_types.specs.declared.txn.Outcome.{Outcome}
 use Rattle.txn_types.specs.declared.txn.Outcome.TheVariants.{Abort}
 use Rattle.txn_types.specs.declared.txn.Txn.{Txn}
 use Rattle.oxii_defs.specs.State.{State}
-use Rattle.oxii_defs.specs.Outcomes.{apply}
+use Rattle.oxii_defs.specs.Effects.{apply}
 use Rattle.oxii_defs.specs.Dependency.{depends}
 
 -- what stands where there is no outcome

@@ -1,5 +1,5 @@
 -- Counting, entry by entry.
-use Rattle.std.specs.Prelude.{ℕ, ◌+◌, Bool, cond, List, [], ◌∷◌, ◌++◌, Option, Some, count_by, ◌≡◌, refl}
+use Rattle.std.specs.Prelude.{ℕ, ◌+◌, Bool, cond, List, [], ◌∷◌, ◌++◌, Some, count_by, ◌≡◌, refl}
 use Rattle.std.proofs.lemmas.List.Sums.{sum_by-cons}
 use Rattle.node_defs.specs.Counting.{first_to_reach}
 

@@ -3,4 +3,5 @@ pub mod Admitted
 pub mod LawfulEvents
 pub mod NamedItems
 pub mod SameLemmas
+pub mod Settings
 pub mod CountingLemmas

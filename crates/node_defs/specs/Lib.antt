@@ -14,6 +14,8 @@ pub mod World
 pub mod LawfulEvents
 pub mod Serial
 pub mod Blocks
+pub mod AgreedSettings
+pub mod Programs
 pub mod Tame
 pub mod Text
 pub mod GraphText

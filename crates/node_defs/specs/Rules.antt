@@ -7,7 +7,6 @@ use Rattle.txn_types.specs.declared.block.Config.{Config}
 use Rattle.txn_types.specs.declared.block.Block.{Block}
 use Rattle.oxii_defs.specs.State.{State, value_in, contains}
 use Rattle.oxii_defs.specs.Table.{Table}
-use Rattle.oxii_defs.specs.Outcomes.{outcome_in}
 use Rattle.oxii_defs.specs.BlockBytes.{block_hash}
 use Rattle.oxii_defs.specs.Lines.{Entry}
 
@@ -29,12 +28,12 @@ agents_in table app = slice_index_or (map (λ a. a.agents) table.apps) app []
 abbrev pub tau_in : Table → ℕ → ℕ
 tau_in table app = slice_index_or (map (λ a. a.tau) table.apps) app 0
 
--- the rules of a document: outcomes by its operations, and hashes of the blocks' bytes
-abbrev pub rules_of : Table → State → Rules
-rules_of table genesis = record {
+-- the rules of a document whose transactions come to these outcomes: hashes are those of the blocks' bytes
+abbrev pub rules_by : (State → Txn → Outcome) → Table → State → Rules
+rules_by outcomes table genesis = record {
   table = table;
   genesis = genesis;
-  outcome = outcome_in table;
+  outcome = outcomes;
   hash = block_hash table;
   agents = agents_in table;
   tau = tau_in table;

@@ -4,7 +4,7 @@ use Rattle.txn_types.specs.declared.txn.Outcome.{Outcome}
 use Rattle.txn_types.specs.declared.txn.Txn.{Txn}
 use Rattle.txn_types.specs.declared.block.Block.{Block}
 use Rattle.oxii_defs.specs.State.{State}
-use Rattle.oxii_defs.specs.Outcomes.{apply}
+use Rattle.oxii_defs.specs.Effects.{apply}
 use Rattle.oxii_defs.specs.Lines.{Entry}
 use Rattle.node_defs.specs.Rules.{Rules}
 use Rattle.node_defs.specs.Ledger.{ledger_state}

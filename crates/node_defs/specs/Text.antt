@@ -8,7 +8,6 @@ use Rattle.txn_types.specs.declared.stream.Reject.TheVariants.{UnknownApp, Clien
 use Rattle.txn_types.specs.declared.stream.Rejected.{Rejected}
 use Rattle.txn_types.specs.declared.stream.CutLimits.{CutLimits}
 use Rattle.txn_types.specs.declared.stream.Item.{Item}
-use Rattle.txn_types.specs.declared.block.Body.{Body}
 use Rattle.txn_types.specs.declared.message.Node.{Node}
 use Rattle.txn_types.specs.declared.event.Event.{Event}
 use Rattle.oxii_defs.specs.State.{State}
@@ -16,8 +15,9 @@ use Rattle.oxii_defs.specs.Table.{Table}
 use Rattle.oxii_defs.specs.Lines.{outcome_text, peer_lines, blocks_line, tail_lines}
 use Rattle.node_defs.specs.Log.{Log}
 use Rattle.node_defs.specs.Ledger.{Halt, halt, heard, ledger, ledger_state}
-use Rattle.node_defs.specs.Cutting.{AreAgreed, rejected_from}
-use Rattle.node_defs.specs.World.{Setting, setting_of, IsWorld, World, is_faulty, peers_of, count_from, log_of}
+use Rattle.node_defs.specs.Cutting.{rejected_from}
+use Rattle.node_defs.specs.World.{Setting, IsWorld, World, is_faulty, peers_of, count_from, log_of}
+use Rattle.node_defs.specs.AgreedSettings.{IsAgreedSetting}
 
 -- the word of a reject
 abbrev pub reject_word : Reject → List ℕ
@@ -60,9 +60,8 @@ text s rejected w =
     flat_map rejected_line rejected ++ blocks_line (length s.chain)
     ++ parts_of s w (count_from 0 (peers_of s)) ++ tail_lines (length w.pool) w.idle
 
--- the text of an input: that of the world of its events, over the chain of its agreed blocks
+-- the text of an input: that of the world of its events, in its setting
 abbrev pub IsTextOf : Table → State → List Item → CutLimits → List Node → List Event → List ℕ → Type 0
 IsTextOf table genesis items limits faulty events lines =
-    (bodies : List Body) × AreAgreed table limits items bodies
-    × ((w : World) × IsWorld (setting_of table genesis items bodies faulty) events w
-    × (lines ≡ text (setting_of table genesis items bodies faulty) (rejected_from table 0 items) w))
+    (s : Setting) × IsAgreedSetting table genesis items limits faulty s
+    × ((w : World) × IsWorld s events w × (lines ≡ text s (rejected_from table 0 items) w))

@@ -1,6 +1,6 @@
 -- The world: a pool of messages, an idle count and the logs of the peers, as the fold of the events.
 use Rattle.std.specs.Prelude.{ℕ, zero, suc, ◌+◌, ◌≡◌, Bool, true, false, if◌then◌else◌, List, [], ◌∷◌, ◌++◌, map, length, get_or, set, Option, Some, None, unwrap_or, slice_get, replicate}
-use Rattle.std.specs.List.{All, list_any, flat_map}
+use Rattle.std.specs.List.{list_any, flat_map}
 use Rattle.std.specs.Option.{option_or}
 use Rattle.txn_types.specs.declared.txn.Txn.{Txn}
 use Rattle.txn_types.specs.declared.block.Config.{Config}
@@ -14,15 +14,10 @@ use Rattle.txn_types.specs.declared.message.Message.{Message}
 use Rattle.txn_types.specs.declared.message.Message.TheVariants as message
 use Rattle.txn_types.specs.declared.event.Event.{Event}
 use Rattle.txn_types.specs.declared.event.Event.TheVariants as event
-use Rattle.txn_types.specs.declared.block.Body.{Body}
-use Rattle.txn_types.specs.declared.stream.Item.{Item}
 use Rattle.oxii_defs.specs.Dependency.{graph_of}
-use Rattle.oxii_defs.specs.Chain.{no_hash, chain as agreed_chain}
-use Rattle.oxii_defs.specs.State.{State}
-use Rattle.oxii_defs.specs.Table.{Table}
-use Rattle.node_defs.specs.Admission.{pieces_of}
+use Rattle.oxii_defs.specs.Chain.{no_hash}
 use Rattle.node_defs.specs.Same.{same_node}
-use Rattle.node_defs.specs.Rules.{Rules, rules_of}
+use Rattle.node_defs.specs.Rules.{Rules}
 use Rattle.node_defs.specs.Log.{Letter, Log}
 use Rattle.node_defs.specs.Sent.{sent}
 use Rattle.node_defs.specs.Ledger.{ledger, heard}
@@ -33,15 +28,6 @@ pub record Setting : Type 0 where
   pub chain : List Block
   pub pieces : List (Option Piece)
   pub faulty : List Node
-
--- the setting of a document's table, genesis state, stream and faulty nodes, where these are the bodies of its agreed blocks
-abbrev pub setting_of : Table → State → List Item → List Body → List Node → Setting
-setting_of table genesis items bodies faulty = record {
-  rules = rules_of table genesis;
-  chain = agreed_chain table bodies;
-  pieces = pieces_of table items;
-  faulty = faulty;
-}
 
 -- the messages sent so far, how many deliveries were idle, and for each peer its log
 pub record World : Type 0 where

@@ -5,7 +5,7 @@ use Rattle.std.specs.Prelude.{ℕ, ◌+◌, ◌<◌, ◌≡◌, Bool, true, fals
 use Rattle.std.specs.List.{AllByRecursion}
 use Rattle.std.proofs.lemmas.List.Elements.{recursion_from_All}
 use Rattle.std.proofs.Common.{sym, ◌∙◌, ap, subst, arith, replicate}
-use Rattle.std.proofs.lemmas.Bool.{eqb-true, true≢false}
+use Rattle.std.proofs.lemmas.Bool.{true≢false}
 use Rattle.std.proofs.lemmas.Option.{none-some, same_Some}
 use Rattle.known_defs.specs.Known.{no_outcome}
 use Rattle.node_defs.specs.Accepted.{accepted, tip}
@@ -17,7 +17,8 @@ use Rattle.node_defs.specs.Sent.{no_standing, sent}
 use Rattle.node_defs.specs.Serial.{IsNumbered, serial_ledger, serial_outcomes_at}
 use Rattle.node_defs.specs.Blocks.{block_at}
 use Rattle.node_defs.specs.Tame.{IsTame}
-use Rattle.node_defs.specs.World.{IsWorld, LeadTo, Setting, World, all_from, count_from, delivered, first_pool, given_to, given_all, given_each, happens, idled, is_faulty, log_of, message_at, newblock_of, newblocks_of, orderers_of, peers_of, said_by, says, setting_of, start}
+use Rattle.node_defs.specs.World.{IsWorld, LeadTo, Setting, World, all_from, count_from, delivered, first_pool, given_to, given_all, given_each, happens, idled, is_faulty, log_of, message_at, newblock_of, newblocks_of, orderers_of, peers_of, said_by, says, start}
+use Rattle.node_defs.specs.Programs.{setting_of}
 use Rattle.node_defs.specs.LawfulEvents.{IsSaidByFaulty}
 use Rattle.node_laws.proofs.Agree.{AllRight, Sound, accepted_right, ledger_right}
 use Rattle.node_laws.proofs.AgreeSent.{IsRightCommit, all_append, all_at, all_map, all_more, believed_at, hears_all, never_split, sent_right, works_right}

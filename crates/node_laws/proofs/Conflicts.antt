@@ -7,12 +7,14 @@ use Rattle.std.proofs.lemmas.List.{map_push, take_all}
 use Rattle.std.proofs.Math.Seq.{take-suc}
 use Rattle.board_defs.specs.Closure.{Plan, can_run, closure, closure_upto, comes_to, is_own, known_at}
 use Rattle.known_defs.specs.Known.{knows_all, no_outcome, txn_at}
-use Rattle.node_defs.specs.Rules.{Rules, rules_of}
+use Rattle.node_defs.specs.Rules.{Rules}
+use Rattle.node_defs.specs.Programs.{rules_of}
 use Rattle.node_defs.specs.Serial.{serial}
 use Rattle.node_laws.proofs.Order.{length_serial, same_outcome_through, serial_at, within_push}
 use Rattle.node_laws.proofs.Same.{Within, rules_local}
 use Rattle.node_laws.specs.ConflictOrder.{ConflictOrder, KnowsRightly}
-use Rattle.oxii_defs.specs.Outcomes.{apply, outcome_in}
+use Rattle.oxii_defs.specs.Outcomes.{outcome_in}
+use Rattle.oxii_defs.specs.Effects.{apply}
 use Rattle.oxii_defs.specs.SerialPart.{serial_outcomes}
 use Rattle.oxii_defs.specs.State.{State}
 use Rattle.oxii_defs.specs.Table.{Table}

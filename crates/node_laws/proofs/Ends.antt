@@ -8,7 +8,8 @@ use Rattle.txn_types.specs.declared.event.Event.TheVariants as event
 use Rattle.node_defs.specs.Log.{Letter, Log}
 use Rattle.node_defs.specs.Rules.{IsLocal, Rules}
 use Rattle.node_defs.specs.Sent.{sent}
-use Rattle.node_defs.specs.World.{Happens, LeadTo, Setting, World, all_from, count_from, delivered, first_pool, given_to, given_all, given_each, idled, is_faulty, message_at, peers_of, said_by, setting_of, start}
+use Rattle.node_defs.specs.World.{Happens, LeadTo, Setting, World, all_from, count_from, delivered, first_pool, given_to, given_all, given_each, idled, is_faulty, message_at, peers_of, said_by, start}
+use Rattle.node_defs.specs.Programs.{setting_of}
 use Rattle.node_laws.proofs.Counting.{Has}
 use Rattle.node_laws.proofs.Run.{same_world}
 use Rattle.node_laws.proofs.Same.{rules_local}

@@ -1,10 +1,8 @@
 -- Growth: what a log has accepted, run, agreed, known and completed stays so for each longer log
-use Rattle.txn_types.specs.declared.txn.Outcome.TheVariants.{Commit, Abort}
-use Rattle.txn_types.specs.declared.txn.Reason.TheVariants.{Require, Overflow, Underflow, ZeroDivisor, Undeclared}
 use Rattle.std.specs.Prelude.{ℕ, ◌==◌, ◌≤◌, Bool, true, false, ◌&&◌, ◌||◌, not, cond, List, [], ◌∷◌, ◌++◌, map, length, filter_map, Option, Some, None, is_some, unwrap_or, option_map, ◌≡◌, refl, suc, zero}
 use Rattle.std.specs.List.{list_all, cons_option}
 use Rattle.std.proofs.Common.{sym, ◌∙◌, ap, subst, arith}
-use Rattle.std.proofs.lemmas.Bool.{and_parts, and_from, not-false, not-true, true≢false, false≢true, eq-eqb, eqb-true}
+use Rattle.std.proofs.lemmas.Bool.{and_parts, and_from, not-false, not-true, true≢false, false≢true, eqb-true}
 use Rattle.std.proofs.lemmas.Option.{none-some, same_Some}
 use Rattle.std.proofs.lemmas.List.{length-append, nil_from_length}
 use Rattle.known_defs.specs.Known.{knows_all, no_outcome, txn_at}
@@ -13,7 +11,7 @@ use Rattle.node_defs.specs.Ledger.{agreed_outcome, with_entry, completed, comple
 use Rattle.node_defs.specs.Log.{Letter, Log, newblock_in}
 use Rattle.node_defs.specs.Position.{Standing, Work, agreed, ballots, is_agent, is_ready, own_outcome, standing, standings}
 use Rattle.node_defs.specs.Rules.{IsLocal, Rules, in_force}
-use Rattle.node_defs.specs.Same.{same_block, same_list, same_number, same_option, same_outcome, same_reason}
+use Rattle.node_defs.specs.Same.{same_block, same_list, same_number, same_outcome}
 use Rattle.node_defs.proofs.SameLemmas.{same_outcome_decides}
 use Rattle.node_laws.proofs.Counting.{grew_filter, grew_first, grew_map, stays_reached}
 use Rattle.node_laws.proofs.Order.{same_outcome_through}
@@ -25,7 +23,6 @@ use Rattle.txn_types.specs.Fitting.{is_fit}
 use Rattle.txn_types.specs.declared.block.Block.{Block}
 use Rattle.txn_types.specs.declared.txn.Kind.{Kind}
 use Rattle.txn_types.specs.declared.txn.Outcome.{Outcome}
-use Rattle.txn_types.specs.declared.txn.Reason.{Reason}
 use Rattle.txn_types.specs.declared.txn.Txn.{Txn}
 
 -- ONE POSITION

@@ -4,7 +4,8 @@ use Rattle.std.proofs.Common.{sym, ◌∙◌, ap, subst, arith, append_assoc}
 use Rattle.node_defs.specs.Ledger.{completed, ledger, work_on, accepted_at}
 use Rattle.node_defs.specs.Log.{Letter, Log}
 use Rattle.node_defs.specs.Position.{Standing}
-use Rattle.node_defs.specs.Rules.{IsLocal, Rules, in_force, rules_of}
+use Rattle.node_defs.specs.Rules.{IsLocal, Rules, in_force}
+use Rattle.node_defs.specs.Programs.{rules_of}
 use Rattle.node_laws.proofs.Growing.{after_keeps, ledger_grows, standings_keep, stays_open}
 use Rattle.node_laws.proofs.Same.{rules_local}
 use Rattle.node_laws.proofs.Whole.{ledger_whole}

@@ -5,7 +5,7 @@ use Rattle.known_defs.specs.Known.{after_known, knows_all, txn_at}
 use Rattle.node_defs.specs.Rules.{IsLocal, Rules}
 use Rattle.node_defs.specs.Serial.{serial}
 use Rattle.node_laws.proofs.Same.{Within, covers, same_after}
-use Rattle.oxii_defs.specs.Outcomes.{apply}
+use Rattle.oxii_defs.specs.Effects.{apply}
 use Rattle.oxii_defs.specs.State.{State}
 use Rattle.txn_types.specs.declared.txn.Outcome.{Outcome}
 use Rattle.txn_types.specs.declared.txn.Txn.{Txn}

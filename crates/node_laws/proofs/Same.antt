@@ -8,9 +8,10 @@ use Rattle.std.proofs.Common.{sym, ◌∙◌, ap, ⊎_elim}
 use Rattle.std.proofs.lemmas.Option.{same_Some, none-some}
 use Rattle.std.proofs.lemmas.Bool.{cases_Bool, or_from, eqb-true, eq-eqb, or_parts, and_parts, false≢true}
 use Rattle.known_defs.specs.Known.{after_known, knows_all}
-use Rattle.node_defs.specs.Rules.{IsLocal, rules_of}
+use Rattle.node_defs.specs.Rules.{IsLocal}
+use Rattle.node_defs.specs.Programs.{rules_of}
 use Rattle.oxii_defs.specs.Dependency.{depends, meets}
-use Rattle.oxii_defs.specs.Outcomes.{apply, put_all, put_entry}
+use Rattle.oxii_defs.specs.Effects.{apply, put_all, put_entry}
 use Rattle.oxii_defs.specs.State.{State, contains, put, value_in}
 use Rattle.oxii_defs.specs.Table.{Table, body_in}
 use Rattle.txn_types.specs.declared.txn.Kind.{Kind}

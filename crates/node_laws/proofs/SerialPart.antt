@@ -4,17 +4,18 @@ use Rattle.std.proofs.Common.{sym, ◌∙◌, ap, arith, append-nil}
 use Rattle.std.proofs.lemmas.List.{reverse-append}
 use Rattle.std.proofs.Math.Seq.{take-suc}
 use Rattle.node_defs.specs.Ledger.{after_outcomes, heard, ledger, ledger_state}
-use Rattle.node_defs.specs.Rules.{rules_of}
+use Rattle.node_defs.specs.Programs.{rules_of, setting_of}
 use Rattle.node_defs.specs.Serial.{serial, serial_base, serial_ledger}
 use Rattle.node_defs.specs.Blocks.{block_at, no_block}
 use Rattle.node_defs.specs.Text.{halted_line}
-use Rattle.node_defs.specs.World.{log_of, setting_of}
+use Rattle.node_defs.specs.World.{log_of}
 use Rattle.node_laws.proofs.AgreeWorld.{agreement}
 use Rattle.node_laws.proofs.Conflicts.{serial_is}
 use Rattle.node_laws.specs.Agreement.{SerialPart}
 use Rattle.oxii_defs.specs.Lines.{Entry, peer_lines}
 use Rattle.oxii_defs.specs.SerialPart.{ledger_of, state_after, serial_outcomes, serial_state}
-use Rattle.oxii_defs.specs.Outcomes.{apply, outcome_in}
+use Rattle.oxii_defs.specs.Outcomes.{outcome_in}
+use Rattle.oxii_defs.specs.Effects.{apply}
 use Rattle.oxii_defs.specs.State.{State}
 use Rattle.oxii_defs.specs.Table.{Table}
 use Rattle.txn_types.specs.declared.block.Block.{Block}

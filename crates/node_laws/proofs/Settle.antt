@@ -10,7 +10,8 @@ use Rattle.board_defs.specs.Closure.{Plan, can_run, closure_upto, comes_to, is_o
 use Rattle.known_defs.specs.Known.{after_known, knows_all, txn_at}
 use Rattle.node_defs.specs.Log.{Log}
 use Rattle.node_defs.specs.Position.{Standing, Work, agreed, is_agent, standing, standings}
-use Rattle.node_defs.specs.Rules.{Rules, in_force_behind, rules_of}
+use Rattle.node_defs.specs.Rules.{Rules, in_force_behind}
+use Rattle.node_defs.specs.Programs.{rules_of}
 use Rattle.node_laws.proofs.Growing.{knows_still}
 use Rattle.node_laws.proofs.Order.{same_outcome_through, within_push}
 use Rattle.node_laws.proofs.Same.{Within, rules_local}

@@ -21,7 +21,8 @@ use Rattle.node_defs.specs.Ledger.{ledger, heard, split, ledger_state, accepted_
 use Rattle.node_defs.specs.Sent.{no_standing}
 use Rattle.node_defs.specs.Serial.{serial_outcomes_at, serial_ledger, serial_base}
 use Rattle.node_defs.specs.Blocks.{block_at}
-use Rattle.node_defs.specs.World.{World, Setting, setting_of, is_faulty, log_of, IsWorld, completed_count}
+use Rattle.node_defs.specs.World.{World, Setting, is_faulty, log_of, IsWorld, completed_count}
+use Rattle.node_defs.specs.Programs.{setting_of}
 use Rattle.node_defs.specs.LawfulEvents.{IsSaidByFaulty}
 use Rattle.node_defs.specs.Tame.{IsTame}
 use Rattle.node_defs.specs.Text.{part_of}

@@ -4,7 +4,8 @@ use Rattle.txn_types.specs.declared.txn.Outcome.{Outcome}
 use Rattle.txn_types.specs.declared.block.Block.{Block}
 use Rattle.oxii_defs.specs.State.{State}
 use Rattle.oxii_defs.specs.Table.{Table}
-use Rattle.node_defs.specs.Rules.{Rules, rules_of, in_force}
+use Rattle.node_defs.specs.Rules.{Rules, in_force}
+use Rattle.node_defs.specs.Programs.{rules_of}
 use Rattle.node_defs.specs.Log.{Log}
 use Rattle.node_defs.specs.Position.{Standing, standings}
 use Rattle.node_defs.specs.Ledger.{completed, ledger, work_on, accepted_at}

@@ -9,7 +9,8 @@ use Rattle.txn_types.specs.declared.event.Event.{Event}
 use Rattle.oxii_defs.specs.State.{State}
 use Rattle.oxii_defs.specs.Table.{Table}
 use Rattle.node_defs.specs.Log.{Letter}
-use Rattle.node_defs.specs.World.{World, Setting, setting_of, peers_of, all_from, IsWorld}
+use Rattle.node_defs.specs.World.{World, Setting, peers_of, all_from, IsWorld}
+use Rattle.node_defs.specs.Programs.{setting_of}
 
 -- how many transactions the block of a NEWBLOCK has
 abbrev pub txns_carried_by : Message → ℕ

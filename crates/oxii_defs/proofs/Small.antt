@@ -11,7 +11,8 @@ use Rattle.oxii_defs.specs.WellFormed.{Scope, IsFineExpr, IsFine, AllFine, scope
 use Rattle.oxii_defs.specs.Calls.{Call, Frame, record_at, number_at, number_arg, leave, call_in, fresh}
 use Rattle.oxii_defs.specs.Meaning.{Makes, HasValue, Scoped, Turns, Leads, LeadsAll, FailsAll}
 use Rattle.oxii_defs.specs.Running.{Answer, after_all}
-use Rattle.oxii_defs.specs.Outcomes.{run, outcome_from, put_all}
+use Rattle.oxii_defs.specs.Outcomes.{run, outcome_from}
+use Rattle.oxii_defs.specs.Effects.{put_all}
 use Rattle.oxii_defs.specs.Laws.{OutcomesFit, StatesStay}
 use Rattle.oxii_defs.proofs.Values.{Told}
 use Rattle.oxii_defs.proofs.Statements.{told_all}

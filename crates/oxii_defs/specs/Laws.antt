@@ -7,7 +7,8 @@ use Rattle.oxii_defs.specs.Syntax.{Stmts, Op}
 use Rattle.oxii_defs.specs.State.{State, value_in, IsState}
 use Rattle.oxii_defs.specs.WellFormed.{IsWellFormed, Match}
 use Rattle.oxii_defs.specs.Meaning.{Ends, Aborts, HasOutcome}
-use Rattle.oxii_defs.specs.Outcomes.{outcome, apply}
+use Rattle.oxii_defs.specs.Outcomes.{outcome}
+use Rattle.oxii_defs.specs.Effects.{apply}
 use Rattle.oxii_defs.specs.SerialPart.{serial_state, serial_outcomes, serial_part}
 use Rattle.oxii_defs.specs.Dependency.{depends, graph_of}
 use Rattle.oxii_defs.specs.SerialRuns.{RunsSerially, IsSerialPart}

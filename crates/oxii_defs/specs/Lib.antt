@@ -9,6 +9,7 @@ pub mod Calls
 pub mod Meaning
 pub mod Running
 pub mod Outcomes
+pub mod Effects
 pub mod Laws
 pub mod Lawful
 pub mod BlockBytes

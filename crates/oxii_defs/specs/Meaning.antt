@@ -4,6 +4,7 @@ use Rattle.std.specs.FinMap as map
 use Rattle.std.specs.Ordering.{nat_cmp}
 use Rattle.oxii_defs.specs.Syntax.{Operator, Add, Sub, Mul, Div, Rem, Comparison, Eq, Ne, Lt, Le, Gt, Ge, Expr, Num, Param, Local, Rec, Calc, Cond, Cmp, And, Or, Not, Stmt, Let, SetLocal, SetRec, Require, If, Repeat, Stmts, Done, Then}
 use Rattle.oxii_defs.specs.State.{State, contains}
+use Rattle.oxii_defs.specs.Table.{Table, body_in}
 use Rattle.oxii_defs.specs.Calls.{Call, Frame, record_at, number_at, with_local, with_local_at, with_written, leave, call_in, fresh}
 use Rattle.txn_types.specs.declared.txn.Reason.{Reason}
 use Rattle.txn_types.specs.declared.txn.Reason.TheVariants as reason
@@ -139,3 +140,7 @@ Aborts body t s r = FailsAll (call_in s t) body (fresh t.writes) r
 abbrev pub HasOutcome : Stmts → Txn → State → Outcome → Type 0
 HasOutcome body t s (outcome.Commit entries) = (w : map.FinMap nat_cmp ℕ) × Ends body t s w × (entries ≡ each (map.get w) t.writes)
 HasOutcome body t s (outcome.Abort r) = Aborts body t s r
+
+-- these outcomes are what the operations of a table mean, of each transaction in each state
+abbrev pub AreMeant : Table → (State → Txn → Outcome) → Type 0
+AreMeant table outcomes = (s : State) (t : Txn) → HasOutcome (body_in table t) t s (outcomes s t)

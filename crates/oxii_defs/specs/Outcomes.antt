@@ -1,8 +1,8 @@
--- Outcome and effect.
-use Rattle.std.specs.Prelude.{ℕ, List, ◌∷◌, Option, Some, None, Ok, Err, map}
+-- What a transaction comes to, as a program.
+use Rattle.std.specs.Prelude.{ℕ, List, Ok, Err, map}
 use Rattle.std.specs.FinMap as map
 use Rattle.oxii_defs.specs.Syntax.{Stmts}
-use Rattle.oxii_defs.specs.State.{State, put}
+use Rattle.oxii_defs.specs.State.{State}
 use Rattle.oxii_defs.specs.Calls.{Frame, call_in, fresh}
 use Rattle.oxii_defs.specs.Table.{Table, body_in}
 use Rattle.oxii_defs.specs.Running.{Answer, after_all}
@@ -20,20 +20,6 @@ outcome_from writes (Err r) = Abort r
 
 abbrev pub outcome : Stmts → Txn → State → Outcome
 outcome body t s = outcome_from t.writes (run body t s)
-
--- s with one entry at r
-abbrev pub put_entry : State → ℕ → Option ℕ → State
-put_entry s r None = s
-put_entry s r (Some v) = put s r v
-
-abbrev pub put_all : State → List ℕ → List (Option ℕ) → State
-put_all s (r ∷ rest) (entry ∷ entries) = put_all (put_entry s r entry) rest entries
-put_all s _ _ = s
-
--- s with the values of an outcome
-abbrev pub apply : State → Txn → Outcome → State
-apply s t (Commit entries) = put_all s t.writes entries
-apply s t (Abort r) = s
 
 -- what the transaction means in the state s, by the operations of the table
 abbrev pub outcome_in : Table → State → Txn → Outcome

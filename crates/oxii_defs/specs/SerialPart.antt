@@ -5,7 +5,8 @@ use Rattle.txn_types.specs.declared.txn.Outcome.{Outcome}
 use Rattle.txn_types.specs.declared.block.Block.{Block}
 use Rattle.oxii_defs.specs.State.{State}
 use Rattle.oxii_defs.specs.Table.{Table}
-use Rattle.oxii_defs.specs.Outcomes.{apply, outcome_in}
+use Rattle.oxii_defs.specs.Outcomes.{outcome_in}
+use Rattle.oxii_defs.specs.Effects.{apply}
 use Rattle.oxii_defs.specs.Lines.{Entry, peer_lines}
 
 abbrev pub after_txn : Table → State → Txn → State

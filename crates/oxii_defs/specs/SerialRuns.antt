@@ -6,7 +6,7 @@ use Rattle.txn_types.specs.declared.block.Block.{Block}
 use Rattle.oxii_defs.specs.State.{State}
 use Rattle.oxii_defs.specs.Meaning.{HasOutcome}
 use Rattle.oxii_defs.specs.Table.{Table, body_in}
-use Rattle.oxii_defs.specs.Outcomes.{apply}
+use Rattle.oxii_defs.specs.Effects.{apply}
 use Rattle.oxii_defs.specs.Lines.{Entry, peer_lines}
 
 -- the transactions lead from s to u: each has its outcome in the state that those before it left

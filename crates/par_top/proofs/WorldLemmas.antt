@@ -3,6 +3,7 @@ use Rattle.std.specs.Prelude.{ℕ, ◌≡◌, ◌≤◌, ◌++◌, Bool, true, f
 use Rattle.std.specs.List.{All}
 use Rattle.std.proofs.Common.{refl, sym, ap, subst, ◌∙◌, arith}
 use Rattle.txn_types.specs.declared.block.Block.{Block}
+use Rattle.txn_types.specs.declared.block.Body.{Body}
 use Rattle.txn_types.specs.declared.event.Event.{Event}
 use Rattle.txn_types.specs.declared.message.Node.{Node}
 use Rattle.txn_types.specs.declared.stream.Item.{Item}
@@ -16,11 +17,14 @@ use Rattle.txn_core.specs.MeantTable.{table_of}
 use Rattle.txn_core.specs.States.{state_of}
 use Rattle.node_defs.specs.Admission.{pieces_of}
 use Rattle.node_defs.specs.LawfulItems.{AreLawfulPieces}
-use Rattle.node_defs.specs.Cutting.{rejected_from}
+use Rattle.node_defs.specs.Cutting.{AreAgreed, rejected_from}
 use Rattle.node_defs.specs.Text.{text, IsTextOf}
-use Rattle.node_defs.specs.World.{World, setting_of, IsWorld, is_false, items_named, start}
+use Rattle.node_defs.specs.World.{World, Setting, IsWorld, is_false, items_named, start}
+use Rattle.node_defs.specs.Programs.{setting_of}
 use Rattle.node_defs.specs.LawfulEvents.{IsLawfulEvent}
+use Rattle.node_defs.specs.AgreedSettings.{IsAgreedSetting}
 use Rattle.node_defs.proofs.LawfulEvents.{said_by_faulty}
+use Rattle.node_defs.proofs.Settings.{is_agreed_setting}
 use Rattle.node_laws.proofs.Bodies.{lawful_pieces}
 use Rattle.text_laws.proofs.Counts.{carry_the_stream}
 use Rattle.text_laws.proofs.SerialTexts.{tame_texts}
@@ -28,10 +32,20 @@ use Rattle.world_laws.specs.Deliveries.{AreBursts, AreDeliveries}
 use Rattle.world_laws.specs.Worlds.{CanTake, HasBursts, KeptWorld, setting_with}
 use Rattle.input_doc.specs.Inputs.{Input}
 use Rattle.input_doc.specs.LawfulInputs.{IsLawfulInput}
-use Rattle.par_top.specs.Traced.{IsTraceText, setting_over, trace_lines}
+use Rattle.par_top.specs.Traced.{IsTraceText, trace_lines}
 use Rattle.par_top.specs.Commands.{IsRunText}
 use Rattle.par_top.specs.Headline.{IsTame, IsSerialText}
 use Rattle.par_top.specs.AgreedBlocks.{AreAgreedBlocks}
+
+-- THE SETTING
+
+-- the setting of an input, over the chain of these bodies
+abbrev pub setting_over : Input → List Body → Setting
+setting_over input bodies = setting_of input.table (state_of input.genesis) input.items bodies input.faulty
+
+setting_over_is : (input : Input) (bodies : List Body) → AreAgreed input.table input.limits input.items bodies →
+    IsAgreedSetting input.table (state_of input.genesis) input.items input.limits input.faulty (setting_over input bodies)
+setting_over_is input bodies agreed = is_agreed_setting input.table (state_of input.genesis) input.items input.limits input.faulty bodies agreed
 
 -- BEFORE THE FIRST EVENT
 
@@ -82,7 +96,8 @@ run_text_is input items blocks pieces rejected lines w same agreed admitted told
     let ours = subst (λ (xs : List Item). AreAgreedBlocks input.table input.limits xs blocks) same agreed in
     let linked = subst (λ bs. over bs pieces rejected) ours.linked now in
     let carried = subst (λ ps. over (chain input.table ours.bodies) ps rejected) (admitted ∙ ap (pieces_of input.table) same) linked in
-    (ours.bodies, ours.agreed, subst (λ rs. over (chain input.table ours.bodies) (pieces_of input.table input.items) rs) (told ∙ ap (rejected_from input.table 0) same) carried)
+    let printed_so = subst (λ rs. over (chain input.table ours.bodies) (pieces_of input.table input.items) rs) (told ∙ ap (rejected_from input.table 0) same) carried in
+    (setting_over input ours.bodies, setting_over_is input ours.bodies ours.agreed, printed_so)
 
 -- the setting of the agreed blocks is that of their bodies
 pub setting_is : (input : Input) (blocks : List Block) (pieces : List (Option Piece)) (agreed : AreAgreedBlocks input.table input.limits input.items blocks) → pieces ≡ pieces_of input.table input.items →
@@ -99,8 +114,8 @@ trace_is : (workers : ℕ) (traced : Bool) (input : Input) (blocks : List Block)
 trace_is workers false input blocks pieces k agreed admitted has = refl
 trace_is workers true input blocks pieces k agreed admitted has =
     let same = setting_is input blocks pieces agreed admitted in record {
-      bodies = agreed.bodies;
-      agreed = agreed.agreed;
+      setting = setting_over input agreed.bodies;
+      is = setting_over_is input agreed.bodies agreed.agreed;
       deliveries = has.0;
       are = subst (λ s. AreDeliveries s (start s) input.schedule has.0) same has.1;
       bursts = k.bursts;

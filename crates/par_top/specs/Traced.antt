@@ -1,10 +1,9 @@
 -- What a trace prints.
 use Rattle.std.specs.Prelude.{◌≡◌, ℕ, Bool, true, false, if◌then◌else◌, List, [], map}
 use Rattle.std.specs.List.{flat_map}
-use Rattle.txn_types.specs.declared.block.Body.{Body}
 use Rattle.oxii_defs.specs.Table.{Table}
-use Rattle.node_defs.specs.Cutting.{AreAgreed}
-use Rattle.node_defs.specs.World.{Setting, setting_of, start}
+use Rattle.node_defs.specs.World.{Setting, start}
+use Rattle.node_defs.specs.AgreedSettings.{IsAgreedSetting}
 use Rattle.txn_core.specs.States.{state_of}
 use Rattle.board_work.specs.Spans.{span_of}
 use Rattle.world_laws.specs.declared.burst.Burst.{Burst}
@@ -20,18 +19,14 @@ bursts_lines table bursts = flat_map (λ b. burst_lines table b.peer b.spans.n (
 abbrev pub trace_lines : Bool → Table → List Burst → List ℕ
 trace_lines traced table bursts = if traced then bursts_lines table bursts else []
 
--- the setting of an input, over the chain of these bodies
-abbrev pub setting_over : Input → List Body → Setting
-setting_over input bodies = setting_of input.table (state_of input.genesis) input.items bodies input.faulty
-
--- the lines of the bursts of an input: for each delivery of its schedule, over the chain of its agreed blocks, one burst for each block of which something first ran with it, with a lawful trace of what did, by so many workers
+-- the lines of the bursts of an input: for each delivery of its schedule, in its setting, one burst for each block of which something first ran with it, with a lawful trace of what did, by so many workers
 pub record HasBurstLines (workers : ℕ) (input : Input) (lines : List ℕ) : Type 0 where
-  pub bodies : List Body
-  pub agreed : AreAgreed input.table input.limits input.items bodies
+  pub setting : Setting
+  pub is : IsAgreedSetting input.table (state_of input.genesis) input.items input.limits input.faulty setting
   pub deliveries : List Delivery
-  pub are : AreDeliveries (setting_over input bodies) (start (setting_over input bodies)) input.schedule deliveries
+  pub are : AreDeliveries setting (start setting) input.schedule deliveries
   pub bursts : List Burst
-  pub of_deliveries : AreBursts (setting_over input bodies) workers deliveries bursts
+  pub of_deliveries : AreBursts setting workers deliveries bursts
   pub printed : lines ≡ bursts_lines input.table bursts
 
 -- what a trace prints of an input, and nothing where none is asked for

@@ -6,7 +6,7 @@ ghost use Rattle.txn_types.specs.declared.event.Event as event;
 ghost use Rattle.txn_types.specs.declared.message.Node.TheVariants as node;
 ghost use Rattle.oxii_defs.specs.State.{State};
 ghost use Rattle.node_defs.specs.Log.{Log};
-ghost use Rattle.node_defs.specs.Rules.{rules_of};
+ghost use Rattle.node_defs.specs.Programs.{rules_of};
 ghost use Rattle.node_defs.specs.World as meant;
 ghost use Rattle.node_defs.specs.World.{Setting, IsWorld, count_from, is_faulty, peers_of};
 ghost use Rattle.node_defs.specs.Text as printed;

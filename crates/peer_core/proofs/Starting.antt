@@ -5,7 +5,8 @@ use Rattle.std.proofs.Common.{sym, ap, arith}
 use Rattle.oxii_defs.specs.Table as meant
 use Rattle.txn_core.specs.MeantTable.{table_of}
 use Rattle.txn_core.specs.States as values
-use Rattle.node_defs.specs.Rules.{Rules, rules_of}
+use Rattle.node_defs.specs.Rules.{Rules}
+use Rattle.node_defs.specs.Programs.{rules_of}
 use Rattle.node_defs.specs.Accepted.{accepted, tip}
 use Rattle.node_defs.specs.Ledger.{completed, accepted_at}
 use Rattle.node_defs.specs.World.{count_from}

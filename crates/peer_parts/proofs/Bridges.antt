@@ -9,7 +9,8 @@ use Rattle.txn_types.specs.declared.block.Block.{Block}
 use Rattle.oxii_defs.specs.State.{State}
 use Rattle.oxii_defs.specs.Table.{Table}
 use Rattle.known_defs.specs.Known.{txn_at, knows_all, no_outcome}
-use Rattle.node_defs.specs.Rules.{Rules, rules_of, in_force_behind}
+use Rattle.node_defs.specs.Rules.{Rules, in_force_behind}
+use Rattle.node_defs.specs.Programs.{rules_of}
 use Rattle.node_defs.specs.Position.{Standing, is_agent}
 use Rattle.node_defs.specs.Ledger.{agreed_outcome}
 use Rattle.node_laws.proofs.Settle.{push_same}

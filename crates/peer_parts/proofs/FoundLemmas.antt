@@ -8,7 +8,8 @@ use Rattle.std.proofs.lemmas.List.{length_push, get_or_append_left, get_or_push}
 use Rattle.std.proofs.Math.Seq.{take-suc}
 use Rattle.txn_types.specs.declared.txn.Outcome.{Outcome}
 use Rattle.known_defs.specs.Known.{txn_at, knows_all}
-use Rattle.node_defs.specs.Rules.{Rules, rules_of}
+use Rattle.node_defs.specs.Rules.{Rules}
+use Rattle.node_defs.specs.Programs.{rules_of}
 use Rattle.board_defs.specs.Closure.{Plan, is_own, run_of}
 use Rattle.node_laws.proofs.Same.{Within, rules_local}
 use Rattle.node_laws.proofs.Growing.{knows_still}

@@ -13,7 +13,8 @@ use Rattle.oxii_defs.specs.Lines as lines
 use Rattle.oxii_defs.specs.BlockBytes.{block_hash}
 use Rattle.txn_core.specs.MeantTable.{table_of}
 use Rattle.txn_core.specs.States as values
-use Rattle.node_defs.specs.Rules.{Rules, IsLocal, rules_of, in_force, in_force_behind}
+use Rattle.node_defs.specs.Rules.{Rules, IsLocal, in_force, in_force_behind}
+use Rattle.node_defs.specs.Programs.{rules_of}
 use Rattle.node_defs.specs.Log.{Letter, Log}
 use Rattle.node_defs.specs.Accepted.{accepted}
 use Rattle.node_defs.specs.Position.{Standing}

@@ -9,7 +9,8 @@ use Rattle.oxii_defs.specs.State.{State, contains}
 use Rattle.oxii_defs.specs.Lines as lines
 use Rattle.txn_core.specs.MeantTable.{table_of}
 use Rattle.txn_core.specs.States as values
-use Rattle.node_defs.specs.Rules.{Rules, rules_of, in_force}
+use Rattle.node_defs.specs.Rules.{Rules, in_force}
+use Rattle.node_defs.specs.Programs.{rules_of}
 use Rattle.node_defs.specs.Log.{Letter, Log}
 use Rattle.node_defs.specs.Ledger.{ledger_state, ledger, split, is_split, heard}
 use Rattle.node_defs.specs.World.{count_from}

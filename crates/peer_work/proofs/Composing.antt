@@ -14,7 +14,8 @@ use Rattle.oxii_defs.specs.State.{State, contains}
 use Rattle.oxii_defs.specs.Table.{Table, App}
 use Rattle.oxii_defs.specs.Lawful.{IsLawfulTxn, IsLawfulBody, IsLawfulBlock}
 use Rattle.known_defs.specs.Known.{txn_at, no_txn}
-use Rattle.node_defs.specs.Rules.{Rules, rules_of, in_force_behind}
+use Rattle.node_defs.specs.Rules.{Rules, in_force_behind}
+use Rattle.node_defs.specs.Programs.{rules_of}
 use Rattle.board_defs.specs.Closure.{Plan}
 use Rattle.node_laws.proofs.LawfulBlockLemmas.{block_txns}
 use Rattle.vote_book.specs.Ballots.{KeptVotes}

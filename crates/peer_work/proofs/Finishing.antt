@@ -7,7 +7,7 @@ use Rattle.txn_types.specs.Fitting.{Fits}
 use Rattle.txn_types.specs.declared.txn.Outcome.{Outcome}
 use Rattle.txn_types.specs.declared.txn.Txn.{Txn}
 use Rattle.oxii_defs.specs.State.{State}
-use Rattle.oxii_defs.specs.Outcomes.{apply}
+use Rattle.oxii_defs.specs.Effects.{apply}
 use Rattle.oxii_defs.specs.Table.{Table}
 use Rattle.oxii_defs.specs.Lawful.{IsRecord, IsLawfulTxn}
 use Rattle.node_defs.specs.Ledger.{after_outcomes}

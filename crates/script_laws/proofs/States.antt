@@ -5,7 +5,7 @@ use Rattle.txn_types.specs.declared.txn.Outcome.{Outcome}
 use Rattle.txn_types.specs.declared.txn.Outcome.TheVariants.{Abort, Commit}
 use Rattle.txn_types.specs.declared.txn.Txn.{Txn}
 use Rattle.oxii_defs.specs.State.{State, value_in, put}
-use Rattle.oxii_defs.specs.Outcomes.{apply, put_all}
+use Rattle.oxii_defs.specs.Effects.{apply, put_all}
 use Rattle.oxii_defs.proofs.States.{value_in-put}
 use Rattle.known_defs.specs.Known.{txn_at, after_known}
 use Rattle.board_defs.specs.Closure.{Plan, known_at, comes_to, closure_upto}

@@ -21,7 +21,7 @@ use Rattle.oxii_defs.specs.Syntax.{Op}
 use Rattle.oxii_defs.specs.Table.{App}
 use Rattle.oxii_defs.specs.Lawful.{IsRecord, IsLawfulApp, IsLawfulTable}
 use Rattle.oxii_defs.specs.NameLists.{AllDiffer, AreInOrder}
-use Rattle.node_defs.specs.World.{setting_of}
+use Rattle.node_defs.specs.Programs.{setting_of}
 use Rattle.node_defs.specs.LawfulEvents.{AreLawfulEvents, IsLawfulEvent}
 use Rattle.node_defs.specs.LawfulItems.{IsLawfulItem, IsLawfulRequest, IsRequestArg, IsRequestSet}
 use Rattle.txn_core.specs.Checked.{all_differ}

@@ -10,7 +10,7 @@ use Rattle.oxii_defs.specs.BlockBytes.{block_hash}
 use Rattle.oxii_defs.specs.Lawful.{IsLawfulBlock}
 use Rattle.oxii_defs.specs.Lines as lines
 use Rattle.node_defs.specs.Accepted.{tip}
-use Rattle.node_defs.specs.Rules.{rules_of}
+use Rattle.node_defs.specs.Programs.{rules_of}
 use Rattle.hash_ledger.specs.declared.entry.Entry.{Entry}
 use Rattle.hash_ledger.specs.Ledgers.{completed_of, entry_of, entries_of, IsLawfulEntry}
 

@@ -8,7 +8,8 @@ use Rattle.oxii_defs.specs.Lines as lines
 use Rattle.node_defs.specs.Accepted.{tip}
 use Rattle.node_defs.specs.Ledger.{heard, ledger, ledger_state}
 use Rattle.node_defs.specs.Log.{Log}
-use Rattle.node_defs.specs.Rules.{Rules, rules_of}
+use Rattle.node_defs.specs.Rules.{Rules}
+use Rattle.node_defs.specs.Programs.{rules_of}
 use Rattle.node_defs.specs.World.{Setting, World, count_from, log_of}
 use Rattle.txn_core.specs.declared.table.Table.{Table}
 use Rattle.txn_core.specs.MeantTable.{table_of}

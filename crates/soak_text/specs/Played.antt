@@ -4,7 +4,7 @@ use Rattle.txn_types.specs.declared.block.Block.{Block}
 use Rattle.txn_types.specs.declared.block.Body.{Body}
 use Rattle.oxii_defs.specs.Chain.{chain}
 use Rattle.node_defs.specs.Cutting.{AreAgreed}
-use Rattle.node_defs.specs.World.{setting_of}
+use Rattle.node_defs.specs.Programs.{setting_of}
 use Rattle.txn_core.specs.States.{state_of}
 use Rattle.world_laws.specs.Worlds.{KeptWorld, IsWorldOf}
 use Rattle.input_doc.specs.Inputs.{Input}

@@ -2,7 +2,6 @@
 use Rattle.std.specs.Prelude.{◌≡◌, ℕ, ◌++◌, Bool, true, false, not, List, length, sum_by, count_by, codes, decimal}
 use Rattle.hex.specs.Hex.{encode_lower}
 use Rattle.txn_types.specs.declared.block.Block.{Block}
-use Rattle.txn_types.specs.declared.block.Body.{Body}
 use Rattle.txn_types.specs.declared.txn.Kind.{Kind}
 use Rattle.txn_types.specs.declared.txn.Outcome.{Outcome}
 use Rattle.txn_types.specs.declared.txn.Outcome.TheVariants.{Commit, Abort}
@@ -11,9 +10,9 @@ use Rattle.oxii_defs.specs.Lines.{Entry, blocks_line}
 use Rattle.oxii_defs.specs.State.{State, value_in}
 use Rattle.oxii_defs.specs.Table.{Table}
 use Rattle.node_defs.specs.Accepted.{tip}
-use Rattle.node_defs.specs.Cutting.{AreAgreed}
 use Rattle.node_defs.specs.Ledger.{heard, ledger, ledger_state}
-use Rattle.node_defs.specs.World.{Setting, World, IsWorld, count_from, log_of, setting_of}
+use Rattle.node_defs.specs.World.{Setting, World, IsWorld, count_from, log_of}
+use Rattle.node_defs.specs.AgreedSettings.{IsAgreedSetting}
 use Rattle.txn_core.specs.States.{state_of}
 use Rattle.input_doc.specs.Inputs.{Input}
 use Rattle.soak_input.specs.Generator.{IsSoakInput}
@@ -77,12 +76,12 @@ summary s seed txns w =
     ++ count_line (codes "sum") (total s.rules.table (ledger_state s.rules (first_ledger s w)))
     ++ count_line (codes "messages") (length w.pool) ++ tip_line (tip s.rules (first_ledger s w))
 
--- what `soak` prints for a seed and a count of transactions: the summary of the world of the events of the input that they make, over the chain of its agreed blocks
+-- what `soak` prints for a seed and a count of transactions: the summary of the world of the events of the input that they make, in its setting
 pub record IsSoakText (seed txns : ℕ) (lines : List ℕ) : Type 0 where
   pub input : Input
   pub made : IsSoakInput seed txns input
-  pub bodies : List Body
-  pub agreed : AreAgreed input.table input.limits input.items bodies
+  pub setting : Setting
+  pub is : IsAgreedSetting input.table (state_of input.genesis) input.items input.limits input.faulty setting
   pub world : World
-  pub played : IsWorld (setting_of input.table (state_of input.genesis) input.items bodies input.faulty) input.schedule world
-  pub printed : lines ≡ summary (setting_of input.table (state_of input.genesis) input.items bodies input.faulty) seed txns world
+  pub played : IsWorld setting input.schedule world
+  pub printed : lines ≡ summary setting seed txns world

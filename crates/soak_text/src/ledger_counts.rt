@@ -4,7 +4,7 @@ ghost use Rattle.std.specs.Prelude.{◌≡◌, not, count_by};
 ghost use Rattle.std.specs.List.{All};
 ghost use Rattle.oxii_defs.specs.State.{State};
 ghost use Rattle.node_defs.specs.Accepted.{tip};
-ghost use Rattle.node_defs.specs.Rules.{rules_of};
+ghost use Rattle.node_defs.specs.Programs.{rules_of};
 ghost use Rattle.txn_core.specs.MeantTable.{table_of};
 ghost use Rattle.hash_ledger.specs.Ledgers.{completed_of, IsLawfulEntry};
 ghost use Rattle.soak_text.specs.Summary.{is_commit, commits, aborts};

@@ -1,15 +1,20 @@
 -- A text of a tame input is one of serial runs.
 use Rattle.std.specs.Prelude.{ℕ, ◌≡◌, ◌++◌, Bool, true, false, not, cond, if◌then◌else◌, List, [], ◌∷◌, filter, length, take}
-use Rattle.std.proofs.Common.{refl, ap, ◌∙◌}
+use Rattle.std.proofs.Common.{refl, ap, subst, ◌∙◌}
 use Rattle.std.specs.List.{flat_map}
 use Rattle.txn_types.specs.declared.message.Node.TheVariants.{Peer}
+use Rattle.txn_types.specs.declared.event.Event.{Event}
+use Rattle.txn_types.specs.declared.stream.Item.{Item}
+use Rattle.oxii_defs.specs.Table.{Table}
 use Rattle.oxii_defs.specs.Chain.{chain}
 use Rattle.oxii_defs.specs.Lines.{blocks_line, tail_lines}
 use Rattle.oxii_defs.specs.SerialPart.{serial_part}
 use Rattle.oxii_defs.proofs.Serially.{serial_parts}
 use Rattle.node_defs.specs.Cutting.{rejected_from}
-use Rattle.node_defs.specs.Text.{rejected_line, parts_of, part_of}
-use Rattle.node_defs.specs.World.{World, Setting, setting_of, is_faulty, log_of, count_from, completed_count}
+use Rattle.node_defs.specs.Text.{rejected_line, parts_of, part_of, text}
+use Rattle.node_defs.specs.World.{World, Setting, IsWorld, is_faulty, log_of, count_from, completed_count}
+use Rattle.node_defs.specs.Programs.{setting_of}
+use Rattle.node_defs.proofs.Settings.{agreed_setting_is, is_agreed_setting}
 use Rattle.node_laws.proofs.SerialPart.{serial_part_law}
 use Rattle.text_laws.specs.Laws.{TameTextsAreSerial}
 
@@ -22,21 +27,30 @@ parts_are s w part (p ∷ rest) each = one (is_faulty s (Peer p)) (parts_are s w
     one true more = more
     one false more = ap (λ xs. xs ++ parts_of s w rest) (each p) ∙ ap (λ xs. part p ++ xs) more
 
+-- what a world of the events and its text are in a setting
+IsTextIn : Table → List Item → List Event → List ℕ → Setting → Type 0
+IsTextIn table items events lines s = (w : World) × IsWorld s events w × (lines ≡ text s (rejected_from table 0 items) w)
+
 pub tame_texts : TameTextsAreSerial
-tame_texts table genesis items limits faulty events lines tame said (bodies, agreed, (w, led, are)) =
+unfolding IsTextIn
+tame_texts table genesis items limits faulty events lines tame said (given, is, printed) =
+    let bodies = is.bodies in
     let s = setting_of table genesis items bodies faulty in
-    let law = λ (p : ℕ). serial_part_law table genesis items bodies faulty events w p (tame bodies agreed) (said bodies) led in
+    let ours = is_agreed_setting table genesis items limits faulty bodies is.agreed in
+    let shown = subst (IsTextIn table items events lines) (agreed_setting_is table genesis items limits faulty given is) printed in
+    let w = shown.0 in
+    let law = λ (p : ℕ). serial_part_law table genesis items bodies faulty events w p (tame s ours) (said bodies) shown.1 in
     let part : ℕ → List ℕ = λ p. serial_part table genesis p (take (completed_count s w p) (chain table bodies)) in (
       (λ p. completed_count s w p),
-      record { bodies = bodies; agreed = agreed; world = w; led = led; counts = λ p. refl },
+      record { setting = s; is = ours; world = w; led = shown.1; counts = λ p. refl },
       record {
         bodies = bodies;
-        agreed = agreed;
+        agreed = is.agreed;
         few = λ p l h. (law p).0;
         part = part;
         serial = λ p l h. (serial_parts table genesis p (take (completed_count s w p) (chain table bodies)) (part p)).1 refl;
         messages = length w.pool;
         idle = w.idle;
-        are = are ∙ ap (λ xs. flat_map rejected_line (rejected_from table 0 items) ++ blocks_line (length (chain table bodies)) ++ xs ++ tail_lines (length w.pool) w.idle) (parts_are s w part (count_from 0 (length table.peers)) (λ p. (law p).1));
+        are = shown.2 ∙ ap (λ xs. flat_map rejected_line (rejected_from table 0 items) ++ blocks_line (length (chain table bodies)) ++ xs ++ tail_lines (length w.pool) w.idle) (parts_are s w part (count_from 0 (length table.peers)) (λ p. (law p).1));
       },
     )

@@ -9,7 +9,7 @@ use Rattle.txn_types.specs.declared.event.Event.{Event}
 use Rattle.oxii_defs.specs.State.{State}
 use Rattle.oxii_defs.specs.Table.{Table}
 use Rattle.node_defs.specs.Text.{IsTextOf}
-use Rattle.node_defs.specs.World.{setting_of}
+use Rattle.node_defs.specs.Programs.{setting_of}
 use Rattle.node_defs.specs.LawfulEvents.{IsSaidByFaulty}
 use Rattle.text_laws.specs.SerialText.{IsTameInput, HasSerialText}
 

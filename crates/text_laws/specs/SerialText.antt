@@ -15,12 +15,13 @@ use Rattle.oxii_defs.specs.SerialRuns.{IsSerialPart}
 use Rattle.node_defs.specs.Cutting.{AreAgreed, rejected_from}
 use Rattle.node_defs.specs.Tame.{IsTame}
 use Rattle.node_defs.specs.Text.{rejected_line}
-use Rattle.node_defs.specs.World.{World, setting_of, IsWorld, count_from, completed_count}
+use Rattle.node_defs.specs.World.{World, Setting, IsWorld, count_from, completed_count}
+use Rattle.node_defs.specs.AgreedSettings.{IsAgreedSetting}
 use Rattle.node_laws.specs.Named.{is_named}
 
 -- few enough nodes are faulty, at each block that orderers agree on
 abbrev pub IsTameInput : Table → State → List Item → CutLimits → List Node → Type 0
-IsTameInput table genesis items limits faulty = (bodies : List Body) → AreAgreed table limits items bodies → IsTame (setting_of table genesis items bodies faulty)
+IsTameInput table genesis items limits faulty = (s : Setting) → IsAgreedSetting table genesis items limits faulty s → IsTame s
 
 -- the peers of a table that aren't named faulty, in table order
 abbrev pub honest_peers : Table → List Node → List ℕ
@@ -39,11 +40,11 @@ pub record IsSerialText (table : Table) (genesis : State) (items : List Item) (l
 
 -- so many blocks each peer holds quorums for, by its log: those that it completed in the world of the events
 pub record AreCompleted (table : Table) (genesis : State) (items : List Item) (limits : CutLimits) (faulty : List Node) (events : List Event) (completed : ℕ → ℕ) : Type 0 where
-  pub bodies : List Body
-  pub agreed : AreAgreed table limits items bodies
+  pub setting : Setting
+  pub is : IsAgreedSetting table genesis items limits faulty setting
   pub world : World
-  pub led : IsWorld (setting_of table genesis items bodies faulty) events world
-  pub counts : (p : ℕ) → completed p ≡ completed_count (setting_of table genesis items bodies faulty) world p
+  pub led : IsWorld setting events world
+  pub counts : (p : ℕ) → completed p ≡ completed_count setting world p
 
 -- the text is one of serial runs, of as many blocks as the peers completed
 abbrev pub HasSerialText : Table → State → List Item → CutLimits → List Node → List Event → List ℕ → Type 0

@@ -7,7 +7,7 @@ use Rattle.std.proofs.lemmas.Bool.{eqb-true, eqb-false, and_parts}
 use Rattle.std.specs.FinMap as map
 use Rattle.std.specs.Ordering.{nat_cmp}
 use Rattle.std.specs.Cmp.{unsigned_tied, nat_cmp_total}
-use Rattle.oxii_defs.specs.Outcomes.{put_entry, put_all}
+use Rattle.oxii_defs.specs.Effects.{put_entry, put_all}
 use Rattle.oxii_defs.specs.State.{State, IsState, value_in, put}
 use Rattle.txn_types.specs.Values.{max_value, IsValue, AreValues}
 use Rattle.txn_types.specs.Fitting.{fit_entries}

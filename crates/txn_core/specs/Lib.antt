@@ -16,6 +16,7 @@ pub use Rattle.oxii_defs.specs.NameLists
 pub use Rattle.oxii_defs.specs.Table
 pub use Rattle.oxii_defs.specs.Lawful
 pub use Rattle.oxii_defs.specs.Outcomes
+pub use Rattle.oxii_defs.specs.Effects
 pub use Rattle.oxii_defs.specs.SerialPart
 pub use Rattle.oxii_defs.specs.Dependency
 pub use Rattle.oxii_defs.specs.BlockBytes

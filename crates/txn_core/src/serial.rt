@@ -3,7 +3,8 @@
 ghost use Rattle.std.specs.Prelude.{◌≡◌, ◌≤◌, ◌<◌, ℕ, true, Some, OnOk, IfOk, IfSome, length, map, take, slice_index};
 ghost use Rattle.std.specs.List.{All};
 ghost use Rattle.oxii_defs.specs.Lawful.{IsLawfulTable, IsLawfulTxn};
-ghost use Rattle.oxii_defs.specs.Outcomes.{outcome_in, apply, put_entry, put_all};
+ghost use Rattle.oxii_defs.specs.Outcomes.{outcome_in};
+ghost use Rattle.oxii_defs.specs.Effects.{apply, put_entry, put_all};
 ghost use Rattle.oxii_defs.specs.SerialPart.{after_txn, serial_state, serial_outcomes};
 ghost use Rattle.txn_types.specs.Fitting.{Fits, fit_entries};
 ghost use Rattle.txn_types.specs.Values.{IsValue, max_value};

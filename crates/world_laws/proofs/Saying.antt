@@ -19,7 +19,8 @@ use Rattle.oxii_defs.specs.BlockBytes.{block_hash}
 use Rattle.txn_core.specs.declared.table.Table.{Table}
 use Rattle.txn_core.specs.MeantTable.{table_of}
 use Rattle.node_defs.specs.LawfulItems.{AreLawfulPieces}
-use Rattle.node_defs.specs.Rules.{Rules, rules_of}
+use Rattle.node_defs.specs.Rules.{Rules}
+use Rattle.node_defs.specs.Programs.{rules_of}
 use Rattle.node_defs.specs.World.{Setting, config_of_piece, hash_before, named_config, said_block, said_newblock, says, txns_of_piece}
 use Rattle.node_defs.specs.LawfulEvents.{AreNamed}
 use Rattle.node_defs.proofs.NamedItems.{named_items_are_lawful}

@@ -8,7 +8,7 @@ use Rattle.oxii_defs.specs.State.{State}
 use Rattle.oxii_defs.specs.Table as meant
 use Rattle.txn_core.specs.declared.table.Table.{Table}
 use Rattle.txn_core.specs.MeantTable.{table_of}
-use Rattle.node_defs.specs.Rules.{rules_of}
+use Rattle.node_defs.specs.Programs.{rules_of}
 use Rattle.node_defs.specs.Log.{Letter, Log}
 use Rattle.node_defs.specs.Sent.{sent}
 use Rattle.node_defs.specs.World.{World, Setting, happens, is_faulty, log_of}

@@ -15,7 +15,7 @@ use Rattle.oxii_defs.specs.Lawful.{IsLawfulTable}
 use Rattle.txn_core.specs.declared.table.Table.{Table}
 use Rattle.txn_core.specs.MeantTable.{table_of}
 use Rattle.node_defs.specs.LawfulItems.{AreLawfulPieces}
-use Rattle.node_defs.specs.Rules.{rules_of}
+use Rattle.node_defs.specs.Programs.{rules_of}
 use Rattle.node_defs.specs.Log.{Letter}
 use Rattle.node_defs.specs.World.{World, Setting, IsWorld, is_false, items_named, start}
 use Rattle.node_defs.specs.LawfulEvents.{IsLawfulEvent}

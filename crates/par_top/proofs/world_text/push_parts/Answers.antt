@@ -1,6 +1,6 @@
 -- What the check of `push_parts` leaves to show.
 use Rattle.std.proofs.Common.{◌≡◌, ◌++◌, ◌+◌, ◌-◌, ◌<◌, ◌∙◌, sym, ap, subst, suc, length, append-nil, arith}
-use Rattle.node_defs.specs.Rules.{rules_of}
+use Rattle.node_defs.specs.Programs.{rules_of}
 use Rattle.node_defs.specs.World.{count_from, log_of}
 use Rattle.node_defs.specs.Text.{parts_of}
 use Rattle.txn_core.specs.declared.table.Table.{Table}

@@ -4,7 +4,8 @@ use Rattle.std.proofs.lemmas.List.{length-map}
 use Rattle.txn_types.specs.declared.txn.Outcome.{Outcome}
 use Rattle.txn_core.specs.MeantTable.{table_of, app_of}
 use Rattle.txn_core.specs.States.{state_of}
-use Rattle.node_defs.specs.Rules.{rules_of, in_force_behind}
+use Rattle.node_defs.specs.Rules.{in_force_behind}
+use Rattle.node_defs.specs.Programs.{rules_of}
 use Rattle.board_defs.specs.Closure.{Plan}
 use Rattle.peer_parts.specs.Found.{IsSound, found_by}
 use Rattle.peer_work.specs.Openings.{IsTraced}

@@ -1,7 +1,8 @@
 -- What the check of `work_on` leaves to show.
 use Rattle.std.proofs.Common.{length, sym, ◌∙◌}
 use Rattle.std.proofs.lemmas.List.{length-map}
-use Rattle.node_defs.specs.Rules.{rules_of, in_force_behind}
+use Rattle.node_defs.specs.Rules.{in_force_behind}
+use Rattle.node_defs.specs.Programs.{rules_of}
 use Rattle.txn_core.specs.MeantTable.{table_of, app_of}
 use Rattle.txn_core.specs.States.{state_of}
 use Rattle.peer_work.specs.declared.opened.Opened.{Opened}

@@ -7,8 +7,9 @@ use Rattle.txn_core.specs.declared.table.Table.{Table}
 use Rattle.txn_core.specs.MeantTable.{table_of}
 use Rattle.txn_core.specs.States.{state_of}
 use Rattle.hash_ledger.specs.Ledgers.{IsLawfulEntry}
-use Rattle.node_defs.specs.Rules.{rules_of}
-use Rattle.node_defs.specs.World.{log_of, setting_of}
+use Rattle.node_defs.specs.Programs.{rules_of, setting_of}
+use Rattle.node_defs.specs.World.{log_of}
+use Rattle.node_defs.proofs.Settings.{is_agreed_setting}
 use Rattle.world_laws.specs.Shown.{IsPeerFor}
 use Rattle.world_laws.specs.Worlds.{peer_in}
 use Rattle.soak_text.specs.Summary.{tip_line}
@@ -40,8 +41,8 @@ returns c =
     record {
       input = w.input;
       made = w.made;
-      bodies = w.bodies;
-      agreed = w.agreed;
+      setting = s;
+      is = is_agreed_setting w.input.table genesis w.input.items w.input.limits w.input.faulty w.bodies w.agreed;
       world = v;
       played = w.stands.is;
       printed =

@@ -1,6 +1,6 @@
 -- What each turn of the loops of `put_all` keeps.
 use Rattle.std.proofs.Common.{◌≡◌, length, drop}
-use Rattle.oxii_defs.specs.Outcomes.{put_all}
+use Rattle.oxii_defs.specs.Effects.{put_all}
 use Rattle.txn_core.specs.States.{state_of}
 use Rattle.txn_core.proofs.serial.put_all.Given as goal
 

@@ -4,7 +4,8 @@ use Rattle.std.proofs.Common.{sym, ◌∙◌, ap, subst, arith}
 use Rattle.txn_core.specs.declared.table.Table.{Table}
 use Rattle.txn_core.specs.MeantTable.{table_of}
 use Rattle.txn_core.specs.States.{state_of}
-use Rattle.node_defs.specs.Rules.{Rules, rules_of}
+use Rattle.node_defs.specs.Rules.{Rules}
+use Rattle.node_defs.specs.Programs.{rules_of}
 use Rattle.node_defs.specs.World.{count_from}
 use Rattle.vote_book.specs.Puts as casts
 use Rattle.hash_ledger.specs.declared.entry.Entry.{Entry}
