@@ -12,7 +12,8 @@ use crate::task::Task;
 use board_words::no_outcomes;
 use board_work::{Own, Plan};
 use dep_graph::build;
-use row_settings::{NoSetting, setting_of};
+use row_settings::setting_of;
+use row_trouble::Trouble;
 use std::alloc::Global;
 use txn_core::{Graph, Scratch, Table, op_named, run_txn};
 use txn_types::{Block, Bodies, Known, OutOfMemory, Outcome, Txns, Values};
@@ -79,14 +80,14 @@ fn last_txns(table: &Table, mut bodies: Bodies) -> Option<Txns>
     }
 }
 
-/// The last block of a document, with its table and the values at the start.
-pub fn set_up(alloc: Global, text: &str) -> Result<Setting, NoSetting>
+/// The last block of a document, with its table and the values at the start; `Trouble::NotThere` where it isn't one of transactions.
+pub fn set_up(alloc: Global, text: &str) -> Result<Setting, Trouble>
     ensures { IfOk result (λ s. IsSet s.table s.base s.block s.graph s.known s.own) }
 {
     let document = setting_of(alloc, text)?;
     let bodies = document.bodies;
     let Some(txns) = last_txns(&document.table, bodies) else {
-        return Err(NoSetting::NoBlock);
+        return Err(Trouble::NotThere);
     };
     let block = Block {
         number: 1,

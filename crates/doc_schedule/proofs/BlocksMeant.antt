@@ -26,7 +26,8 @@ use Rattle.doc_schedule.specs.Places.{place_in}
 use Rattle.doc_schedule.specs.Hashes.{if_lower, hash_of, prev, prev_at}
 use Rattle.doc_schedule.specs.Blocks.{may_stand, next_txn, txns_within, txns_of, txns_at, next_pred, next_preds, are_arrays, lists_of, preds, count_of, preds_at, links_at}
 use Rattle.doc_schedule.specs.Tables.{role_of}
-use Rattle.doc_schedule.specs.ScheduleMeaning.{HasPlace, MayHave, SaysNamedItem, txns_among, SaysHash, SaysPred, SaysPreds, SaysGraph}
+use Rattle.node_defs.specs.Sayings.{txns_named}
+use Rattle.doc_schedule.specs.ScheduleMeaning.{HasPlace, MayHave, SaysNamedItem, SaysHash, SaysPred, SaysPreds, SaysGraph}
 use Rattle.doc_schedule.proofs.TablesMeant.{eqb-same}
 use Rattle.doc_schedule.proofs.RolesMeant.{may_stand_means, may_stand_reads, AreNamedAmong, count_is}
 use Rattle.doc_schedule.proofs.EndsMeant.{gives, not_above, test_above, each_end_means, each_end_reads, list_end_means, list_end_reads, place_means, place_reads}
@@ -105,7 +106,7 @@ said_named pieces count no_items (i ∷ items) h = absurd h
 said_named pieces count (item d ds) [] h = absurd h
 said_named pieces count (item d ds) (i ∷ items) h = (h.0.1, said_named pieces count ds items h.1)
 
-pub count_said : (pieces : List (Option Piece)) (v : Option Data) (items : List ℕ) → HasList (SaysNamedItem pieces (length items)) 1 256 v items → count_of (map role_of pieces) items ≡ txns_among pieces items
+pub count_said : (pieces : List (Option Piece)) (v : Option Data) (items : List ℕ) → HasList (SaysNamedItem pieces (length items)) 1 256 v items → count_of (map role_of pieces) items ≡ length (txns_named pieces items)
 count_said pieces v items h = count_is pieces items (said_named pieces (length items) h.items items h.each)
 
 -- ---- the previous hash

@@ -5,10 +5,10 @@ use Rattle.std.specs.List.{AllByRecursion, flat_map}
 use Rattle.std.proofs.lemmas.Bool.{eqb-true}
 use Rattle.txn_types.specs.declared.stream.Piece.{Piece}
 use Rattle.txn_types.specs.declared.stream.Piece.TheVariants as piece
-use Rattle.node_defs.specs.World.{MayBeNamed, txns_of_piece}
+use Rattle.node_defs.specs.World.{MayBeNamed}
+use Rattle.node_defs.specs.Sayings.{txns_named, txns_of_piece}
 use Rattle.doc_schedule.specs.Tables.{role_of}
 use Rattle.doc_schedule.specs.Blocks.{may_stand, is_config_role, first_role, count_of}
-use Rattle.doc_schedule.specs.ScheduleMeaning.{txns_among}
 
 -- ---- one item
 
@@ -53,7 +53,7 @@ module _ (pieces : List (Option Piece)) where
   no_config count (Some (piece.Call t)) many h = refl
   no_config count (Some (piece.Config c)) many h = absurd (many h)
 
-  all_calls : (count : ℕ) (items : List ℕ) → (count ≡ 1 → ⊥) → AreNamedAmong count items → txns_among pieces items ≡ length items
+  all_calls : (count : ℕ) (items : List ℕ) → (count ≡ 1 → ⊥) → AreNamedAmong count items → length (txns_named pieces items) ≡ length items
   all_calls count [] many h = refl
   all_calls count (i ∷ rest) many h =
       let p = get_or pieces i None in
@@ -67,7 +67,7 @@ module _ (pieces : List (Option Piece)) where
   one_item (Some (piece.Config c)) h = refl
 
   -- a configuration stands alone and is no transaction, and any other items are as many transactions
-  pub count_is : (items : List ℕ) → AreNamedAmong (length items) items → count_of (map role_of pieces) items ≡ txns_among pieces items
+  pub count_is : (items : List ℕ) → AreNamedAmong (length items) items → count_of (map role_of pieces) items ≡ length (txns_named pieces items)
   unfolding count_of
   count_is [] h = refl
   count_is (i ∷ []) h = ap (λ b. cond b 0 1) (role_is pieces i) ∙ one_item (get_or pieces i None) h.0

@@ -1,5 +1,5 @@
 -- A schedule that a document says is lawful.
-use Rattle.std.proofs.Common.{◌≡◌, ℕ, ◌+◌, ◌<◌, ◌≤◌, List, length, Option, Some, None, IfSome, arith}
+use Rattle.std.proofs.Common.{◌≡◌, ℕ, ◌+◌, ◌<◌, ◌≤◌, List, length, get_or, Option, Some, None, IfSome, arith}
 use Rattle.std.specs.List.{All}
 use Rattle.std.proofs.lemmas.Option.{slice_get_within}
 use Rattle.serde_json.specs.Data.{Data, null, boolean, number, string, array, object, Members}
@@ -7,7 +7,7 @@ use Rattle.serde_json.specs.Events.{items_len}
 use Rattle.txn_types.specs.declared.txn.Outcome.{Outcome}
 use Rattle.txn_types.specs.declared.message.Vote.{Vote}
 use Rattle.txn_types.specs.declared.event.Event.{Event}
-use Rattle.node_defs.specs.World.{Setting, MayBeNamed, piece_at}
+use Rattle.node_defs.specs.World.{Setting, MayBeNamed}
 use Rattle.node_defs.specs.LawfulEvents.{AreNamed, AreSaidPreds, IsSaidOutcome, IsSaidVote, IsLawfulEvent, AreLawfulEvents}
 use Rattle.doc_forms.specs.Meaning.{HasList}
 use Rattle.doc_forms.proofs.SetsMeant.{said_of, length_of_said}
@@ -67,7 +67,7 @@ module _ (s : Setting) where
       record {
         some = bounds.0;
         few = bounds.1;
-        each = each_of (SaysNamedItem s.pieces (length items)) (λ i. MayBeNamed (length items) (piece_at s i)) (λ d i said. said.1) 1 256 v items h;
+        each = each_of (SaysNamedItem s.pieces (length items)) (λ i. MayBeNamed (length items) (get_or s.pieces i None)) (λ d i said. said.1) 1 256 v items h;
       }
 
   -- ---- events

@@ -1,6 +1,6 @@
 -- What a schedule says, key by key: no order of checks, and no faults.
 use Rattle.std.specs.Prelude.{◌≡◌, ◌≤◌, ℕ, ◌+◌, List, [], ◌∷◌, codes, length, get_or, Option, Some, None, sum_by}
-use Rattle.std.specs.List.{Contains, count_by, flat_map}
+use Rattle.std.specs.List.{Contains, count_by}
 use Rattle.serde_json.specs.Data.{Data, null, number, unsigned, object, Members}
 use Rattle.serde_json.specs.Find.{get_member}
 use Rattle.txn_types.specs.Values.{max_number, max_false}
@@ -15,7 +15,8 @@ use Rattle.txn_types.specs.declared.stream.Piece.{Piece}
 use Rattle.txn_types.specs.declared.event.Event.{Event}
 use Rattle.txn_types.specs.declared.event.Event.TheVariants as event
 use Rattle.oxii_defs.specs.Lines.{reason_word}
-use Rattle.node_defs.specs.World.{MayBeNamed, txns_of_piece, is_all, is_false, items_named, votes_said}
+use Rattle.node_defs.specs.World.{MayBeNamed, is_all, is_false, items_named, votes_said}
+use Rattle.node_defs.specs.Sayings.{txns_named}
 use Rattle.doc_forms.specs.Meaning.{IsNameAt, IsNodeName, HasNumber, HasText, HasReference, HasOnly, HasList}
 
 -- a place, which a document numbers from 1
@@ -59,10 +60,6 @@ SaysVote _ v = ⊥
 abbrev pub SaysNamedItem : List (Option Piece) → ℕ → Data → ℕ → Type 0
 SaysNamedItem pieces count d i = HasPlace (length pieces) (Some d) i × MayBeNamed count (get_or pieces i None)
 
--- how many transactions these items carry
-abbrev pub txns_among : List (Option Piece) → List ℕ → ℕ
-txns_among pieces items = length (flat_map (λ i. txns_of_piece (get_or pieces i None)) items)
-
 -- 64 lower-case hexadecimal digits, of 32 bytes
 abbrev pub SaysHash : Data → List ℕ → Type 0
 SaysHash d bytes = HasText (Some d) (encode_lower bytes) × (length bytes ≡ 32) × IsBytes bytes
@@ -96,7 +93,7 @@ pub record BlockKeys (orderers peers : List (List ℕ)) (faulty : List Node) (pi
   pub number_is : HasNumber 1 max_number (get_member (codes "number") ms) n
   pub txns_are : HasList (SaysNamedItem pieces (length items)) 1 256 (get_member (codes "txns") ms) items
   pub prev_is : MayHave SaysHash (get_member (codes "prev") ms) prev
-  pub preds_are : MayHave (SaysGraph (txns_among pieces items)) (get_member (codes "preds") ms) preds
+  pub preds_are : MayHave (SaysGraph (length (txns_named pieces items))) (get_member (codes "preds") ms) preds
   pub only : HasOnly (codes "do" ∷ codes "from" ∷ codes "number" ∷ codes "txns" ∷ codes "prev" ∷ codes "preds" ∷ []) ms
 
 pub record CommitKeys (orderers peers : List (List ℕ)) (faulty : List Node) (ms : Members) (from : Node) (results : Results) : Type 0 where

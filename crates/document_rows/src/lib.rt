@@ -4,9 +4,8 @@
 mod answers;
 mod rows;
 mod texts;
-mod trouble;
 
 pub use answers::{BASE, Said, answer, answer_with, text_of};
+pub use row_trouble::Trouble;
 pub use rows::{edited, json, replaced, wrong_row};
 pub use texts::wrong_texts;
-pub use trouble::Trouble;

@@ -58,7 +58,7 @@ pub fn expanded(alloc: Global, text: &str) -> Result<String, AllocError> {
 // The text with one replacement of a row.
 fn edited_once(alloc: Global, text: &str, edit: &str) -> Result<String, Trouble> {
     let Some((old, new)) = edit.split_once(" -> ") else {
-        return Err(Trouble::NoRow);
+        return Err(Trouble::Row);
     };
     let new = if new == "nothing" { "" } else { new };
     let inner = expanded(alloc, new)?;
@@ -98,7 +98,7 @@ fn said<R: Threads + Sync>(
             Ok(answer(rt, alloc, command, document.as_bytes())?.line)
         }
         Err(Trouble::NotThere) => Ok(String::from_str(alloc, "what it replaces is not there\n")?),
-        Err(Trouble::NoRow) => Ok(String::from_str(alloc, "it replaces nothing\n")?),
+        Err(Trouble::Row) => Ok(String::from_str(alloc, "it replaces nothing\n")?),
         Err(trouble) => Err(trouble),
     }
 }

@@ -10,7 +10,7 @@ use Rattle.txn_types.specs.declared.stream.Item.{Item}
 use Rattle.txn_types.specs.declared.stream.Item.TheVariants as item
 use Rattle.oxii_defs.specs.Table.{Table}
 use Rattle.node_defs.specs.Admission.{admit, piece_of, piece_of_answer, pieces_of}
-use Rattle.node_defs.specs.World.{txns_of_piece, config_of_piece}
+use Rattle.node_defs.specs.Sayings.{txns_of_piece, config_of_piece}
 use Rattle.doc_stream.specs.StreamMeaning.{is_request, is_config}
 
 module _ (table : Table) where

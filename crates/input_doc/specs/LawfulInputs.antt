@@ -12,7 +12,7 @@ use Rattle.oxii_defs.specs.Table.{Table}
 use Rattle.oxii_defs.specs.Lawful.{IsLawfulTable}
 use Rattle.node_defs.specs.Admission.{pieces_of}
 use Rattle.node_defs.specs.LawfulItems.{IsLawfulItem, AreLawfulLimits}
-use Rattle.node_defs.specs.World.{txns_of_piece, config_of_piece}
+use Rattle.node_defs.specs.Sayings.{txns_of_piece, config_of_piece}
 use Rattle.node_defs.specs.Programs.{setting_of}
 use Rattle.node_defs.specs.LawfulEvents.{AreLawfulEvents}
 use Rattle.input_doc.specs.Inputs.{Input}

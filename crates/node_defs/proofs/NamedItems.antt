@@ -11,34 +11,35 @@ use Rattle.txn_types.specs.declared.txn.Txn.{Txn}
 use Rattle.oxii_defs.specs.Lawful.{IsLawfulBody, IsLawfulConfig, IsLawfulTxn}
 use Rattle.oxii_defs.specs.Table.{Table}
 use Rattle.node_defs.specs.LawfulItems.{AreLawfulPieces, IsLawfulPiece}
-use Rattle.node_defs.specs.World.{MayBeNamed, Setting, config_of_piece, named_config, named_txns, piece_at, txns_of_piece}
+use Rattle.node_defs.specs.World.{MayBeNamed, Setting}
+use Rattle.node_defs.specs.Sayings.{config_of_piece, config_named, txns_named, txns_of_piece}
 use Rattle.node_defs.specs.LawfulEvents.{AreNamed}
 
 -- each of these items is a call: they have no configuration, and one transaction each
 pub record AreCalls (s : Setting) (items : List ℕ) : Type 0 where
-  pub no_config : named_config s items ≡ None
-  pub one_each : length (named_txns s items) ≡ length items
+  pub no_config : config_named s.pieces items ≡ None
+  pub one_each : length (txns_named s.pieces items) ≡ length items
 
 -- they have a configuration, and no transaction
 pub record IsOneConfig (s : Setting) (items : List ℕ) : Type 0 where
   pub config : Config
-  pub is : named_config s items ≡ Some config
-  pub no_txns : named_txns s items ≡ []
+  pub is : config_named s.pieces items ≡ Some config
+  pub no_txns : txns_named s.pieces items ≡ []
 
 module _ (s : Setting) where
   one_call : (count : ℕ) (i : ℕ) (rest : List ℕ) (p : Option Piece) → (count ≡ 1 → ⊥) → MayBeNamed count p → AreCalls s rest →
-      (option_or (config_of_piece p) (named_config s rest) ≡ None) × (length (txns_of_piece p ++ named_txns s rest) ≡ suc (length rest))
+      (option_or (config_of_piece p) (config_named s.pieces rest) ≡ None) × (length (txns_of_piece p ++ txns_named s.pieces rest) ≡ suc (length rest))
   one_call count i rest None many h more = absurd h
   one_call count i rest (Some (piece.Call t)) many h more = (more.no_config, ap (λ n. suc n) more.one_each)
   one_call count i rest (Some (piece.Config c)) many h more = absurd (many h)
 
   -- where so many may stand that none of them is a configuration
-  calls : (count : ℕ) (items : List ℕ) → (count ≡ 1 → ⊥) → AllByRecursion (λ i. MayBeNamed count (piece_at s i)) items → AreCalls s items
+  calls : (count : ℕ) (items : List ℕ) → (count ≡ 1 → ⊥) → AllByRecursion (λ i. MayBeNamed count (get_or s.pieces i None)) items → AreCalls s items
   calls count [] many all = record { no_config = refl; one_each = refl }
   calls count (i ∷ rest) many all =
-      let h = one_call count i rest (piece_at s i) many all.0 (calls count rest many all.1) in record { no_config = h.0; one_each = h.1 }
+      let h = one_call count i rest (get_or s.pieces i None) many all.0 (calls count rest many all.1) in record { no_config = h.0; one_each = h.1 }
 
-  one_item : (i : ℕ) (p : Option Piece) → piece_at s i ≡ p → MayBeNamed 1 p → AreCalls s (i ∷ []) ⊎ IsOneConfig s (i ∷ [])
+  one_item : (i : ℕ) (p : Option Piece) → get_or s.pieces i None ≡ p → MayBeNamed 1 p → AreCalls s (i ∷ []) ⊎ IsOneConfig s (i ∷ [])
   one_item i None e h = absurd h
   one_item i (Some (piece.Call t)) e h =
       inl (record { no_config = ap (λ p. option_or (config_of_piece p) None) e; one_each = ap (λ p. length (txns_of_piece p ++ [])) e })
@@ -48,10 +49,10 @@ module _ (s : Setting) where
   -- what a false block may name are calls, or one configuration
   pub calls_or_config : (items : List ℕ) → AreNamed s items → AreCalls s items ⊎ IsOneConfig s items
   calls_or_config [] named = let h = named.some in absurd (omega arith)
-  calls_or_config (i ∷ []) named = one_item i (piece_at s i) refl (recursion_from_All (λ i. MayBeNamed 1 (piece_at s i)) (i ∷ []) named.each).0
+  calls_or_config (i ∷ []) named = one_item i (get_or s.pieces i None) refl (recursion_from_All (λ i. MayBeNamed 1 (get_or s.pieces i None)) (i ∷ []) named.each).0
   calls_or_config (i ∷ j ∷ rest) named =
       let count = length (i ∷ j ∷ rest) in
-      inl (calls count (i ∷ j ∷ rest) (λ e. omega arith) (recursion_from_All (λ i. MayBeNamed count (piece_at s i)) (i ∷ j ∷ rest) named.each))
+      inl (calls count (i ∷ j ∷ rest) (λ e. omega arith) (recursion_from_All (λ i. MayBeNamed count (get_or s.pieces i None)) (i ∷ j ∷ rest) named.each))
 
 -- LAWFUL BODIES
 
@@ -67,28 +68,28 @@ module _ (table : Table) (s : Setting) (lawful : AllByRecursion (λ p. IfSome p 
   one_txn (Some (piece.Call t)) more h all = (h, all)
   one_txn (Some (piece.Config c)) more h all = all
 
-  txns_lawful : (items : List ℕ) → AllByRecursion (IsLawfulTxn table) (named_txns s items)
+  txns_lawful : (items : List ℕ) → AllByRecursion (IsLawfulTxn table) (txns_named s.pieces items)
   txns_lawful [] = tt
-  txns_lawful (i ∷ rest) = one_txn (piece_at s i) (named_txns s rest) (lawful_at table s.pieces i lawful) (txns_lawful rest)
+  txns_lawful (i ∷ rest) = one_txn (get_or s.pieces i None) (txns_named s.pieces rest) (lawful_at table s.pieces i lawful) (txns_lawful rest)
 
   one_config : (p : Option Piece) (more : Option Config) → IfSome p (IsLawfulPiece table) → IfSome more (IsLawfulConfig table) → IfSome (option_or (config_of_piece p) more) (IsLawfulConfig table)
   one_config None more h k = k
   one_config (Some (piece.Call t)) more h k = k
   one_config (Some (piece.Config c)) more h k = h
 
-  config_lawful : (items : List ℕ) → IfSome (named_config s items) (IsLawfulConfig table)
+  config_lawful : (items : List ℕ) → IfSome (config_named s.pieces items) (IsLawfulConfig table)
   config_lawful [] = tt
-  config_lawful (i ∷ rest) = one_config (piece_at s i) (named_config s rest) (lawful_at table s.pieces i lawful) (config_lawful rest)
+  config_lawful (i ∷ rest) = one_config (get_or s.pieces i None) (config_named s.pieces rest) (lawful_at table s.pieces i lawful) (config_lawful rest)
 
-  body_lawful : (items : List ℕ) → AreNamed s items → AreCalls s items ⊎ IsOneConfig s items → IsLawfulBody table (named_txns s items) (named_config s items)
+  body_lawful : (items : List ℕ) → AreNamed s items → AreCalls s items ⊎ IsOneConfig s items → IsLawfulBody table (txns_named s.pieces items) (config_named s.pieces items)
   body_lawful items named (inl h) =
       let e = h.one_each in
       let some = named.some in
       let few = named.few in
-      rw h.no_config ((omega arith, omega arith), All-from_recursion (IsLawfulTxn table) (named_txns s items) (txns_lawful items))
+      rw h.no_config ((omega arith, omega arith), All-from_recursion (IsLawfulTxn table) (txns_named s.pieces items) (txns_lawful items))
   body_lawful items named (inr h) = rw h.is (h.no_txns, rw h.is at (config_lawful items))
 
 -- where the pieces of the stream are lawful, what a false block may name makes a lawful body
-pub named_items_are_lawful : (table : Table) (s : Setting) (items : List ℕ) → AreLawfulPieces table s.pieces → AreNamed s items → IsLawfulBody table (named_txns s items) (named_config s items)
+pub named_items_are_lawful : (table : Table) (s : Setting) (items : List ℕ) → AreLawfulPieces table s.pieces → AreNamed s items → IsLawfulBody table (txns_named s.pieces items) (config_named s.pieces items)
 named_items_are_lawful table s items lawful named =
     body_lawful table s (recursion_from_All (λ p. IfSome p (IsLawfulPiece table)) s.pieces lawful) items named (calls_or_config s items named)

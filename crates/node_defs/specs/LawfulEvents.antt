@@ -1,5 +1,5 @@
 -- Lawful events: what they name is there, and what faulty nodes say fits the table.
-use Rattle.std.specs.Prelude.{ℕ, ◌≡◌, ◌≤◌, ◌<◌, true, List, length, Option, sum_by, IfSome}
+use Rattle.std.specs.Prelude.{ℕ, ◌≡◌, ◌≤◌, ◌<◌, true, List, length, get_or, Option, None, sum_by, IfSome}
 use Rattle.std.specs.List.{All, count_by}
 use Rattle.txn_types.specs.Values.{max_number, max_false}
 use Rattle.txn_types.specs.declared.txn.Outcome.{Outcome}
@@ -9,7 +9,8 @@ use Rattle.txn_types.specs.declared.message.Vote.{Vote}
 use Rattle.txn_types.specs.declared.message.Commit.{Commit}
 use Rattle.txn_types.specs.declared.event.Event.{Event}
 use Rattle.txn_types.specs.declared.event.Event.TheVariants as event
-use Rattle.node_defs.specs.World.{Setting, is_faulty, peers_of, piece_at, named_txns, MayBeNamed, is_all, is_false, items_named, votes_said}
+use Rattle.node_defs.specs.Sayings.{txns_named}
+use Rattle.node_defs.specs.World.{Setting, is_faulty, peers_of, MayBeNamed, is_all, is_false, items_named, votes_said}
 
 -- a faulty node alone says what it likes: what is said is of a faulty node
 abbrev pub IsSaidByFaulty : Setting → Event → Type 0
@@ -21,7 +22,7 @@ IsSaidByFaulty s _ = Unit {0}
 pub record AreNamed (s : Setting) (items : List ℕ) : Type 0 where
   pub some : 1 ≤ length items
   pub few : length items ≤ 256
-  pub each : All (λ i. MayBeNamed (length items) (piece_at s i)) items
+  pub each : All (λ i. MayBeNamed (length items) (get_or s.pieces i None)) items
 
 -- the predecessors that a false block may give so many transactions: for each of them at most 256 positions, the last of which is 255
 pub record AreSaidPreds (count : ℕ) (preds : List (List ℕ)) : Type 0 where
@@ -36,7 +37,7 @@ pub record IsLawfulFalseBlock (s : Setting) (from : Node) (number : ℕ) (prev :
   pub number_to : number ≤ max_number
   pub hash : IfSome prev (λ h. length h ≡ 32)
   pub named : AreNamed s items
-  pub graph : IfSome preds (AreSaidPreds (length (named_txns s items)))
+  pub graph : IfSome preds (AreSaidPreds (length (txns_named s.pieces items)))
 
 -- an outcome that a false vote may give: it may fit no transaction, and has at most 16 entries
 abbrev pub IsSaidOutcome : Outcome → Type 0

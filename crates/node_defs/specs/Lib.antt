@@ -10,6 +10,7 @@ pub mod Accepted
 pub mod Position
 pub mod Ledger
 pub mod Sent
+pub mod Sayings
 pub mod World
 pub mod LawfulEvents
 pub mod Serial

@@ -1,9 +1,6 @@
 -- The world: a pool of messages, an idle count and the logs of the peers, as the fold of the events.
-use Rattle.std.specs.Prelude.{ℕ, zero, suc, ◌+◌, ◌≡◌, Bool, true, false, if◌then◌else◌, List, [], ◌∷◌, ◌++◌, map, length, get_or, set, Option, Some, None, unwrap_or, slice_get, replicate}
-use Rattle.std.specs.List.{list_any, flat_map}
-use Rattle.std.specs.Option.{option_or}
-use Rattle.txn_types.specs.declared.txn.Txn.{Txn}
-use Rattle.txn_types.specs.declared.block.Config.{Config}
+use Rattle.std.specs.Prelude.{ℕ, zero, suc, ◌+◌, ◌≡◌, Bool, true, false, if◌then◌else◌, List, [], ◌∷◌, ◌++◌, map, length, get_or, set, Option, Some, None, slice_get, replicate}
+use Rattle.std.specs.List.{list_any}
 use Rattle.txn_types.specs.declared.block.Block.{Block}
 use Rattle.txn_types.specs.declared.stream.Piece.{Piece}
 use Rattle.txn_types.specs.declared.stream.Piece.TheVariants as piece
@@ -15,11 +12,11 @@ use Rattle.txn_types.specs.declared.message.Message.TheVariants as message
 use Rattle.txn_types.specs.declared.event.Event.{Event}
 use Rattle.txn_types.specs.declared.event.Event.TheVariants as event
 use Rattle.oxii_defs.specs.Dependency.{graph_of}
-use Rattle.oxii_defs.specs.Chain.{no_hash}
 use Rattle.node_defs.specs.Same.{same_node}
 use Rattle.node_defs.specs.Rules.{Rules}
 use Rattle.node_defs.specs.Log.{Letter, Log}
 use Rattle.node_defs.specs.Sent.{sent}
+use Rattle.node_defs.specs.Sayings.{said_block, said_newblock}
 use Rattle.node_defs.specs.Ledger.{ledger, heard}
 
 -- what stays as it is: the rules, the chain, for each item of the stream what it carries, and the faulty nodes
@@ -112,60 +109,18 @@ abbrev pub all_from : Setting → ℕ → ℕ → World → Option World
 all_from s zero m w = elim (message_at w m) [ None ↦ Some w | Some x ↦ None ]
 all_from s (suc turns) m w = elim (message_at w m) [ None ↦ Some w | Some x ↦ all_from s turns (suc m) (given_all s x w) ]
 
--- WHAT FAULTY NODES SAY
-
--- what item i of the stream carries
-abbrev pub piece_at : Setting → ℕ → Option Piece
-piece_at s i = get_or s.pieces i None
-
--- the transaction of a piece, if it is one
-abbrev pub txns_of_piece : Option Piece → List Txn
-txns_of_piece (Some (piece.Call t)) = t ∷ []
-txns_of_piece _ = []
-
--- its configuration, if it is one
-abbrev pub config_of_piece : Option Piece → Option Config
-config_of_piece (Some (piece.Config c)) = Some c
-config_of_piece _ = None
-
--- the transactions of these items
-abbrev pub named_txns : Setting → List ℕ → List Txn
-named_txns s items = flat_map (λ i. txns_of_piece (piece_at s i)) items
-
--- the configuration that these items name
-abbrev pub named_config : Setting → List ℕ → Option Config
-named_config s [] = None
-named_config s (i ∷ rest) = option_or (config_of_piece (piece_at s i)) (named_config s rest)
-
--- where it is left out, the previous hash is that of the agreed block of the number before, if there is one
-abbrev pub hash_before : Setting → ℕ → List ℕ
-hash_before s (suc (suc m)) = elim (slice_get s.chain m) [ None ↦ no_hash | Some b ↦ s.rules.hash b ]
-hash_before s _ = no_hash
-
--- a block with these items
-abbrev pub said_block : Setting → ℕ → Option (List ℕ) → List ℕ → Block
-said_block s number prev items = record {
-  number = number;
-  prev = unwrap_or prev (hash_before s number);
-  txns = named_txns s items;
-  config = named_config s items;
-}
-
--- where they are left out, the predecessors are those of the graph
-abbrev pub said_newblock : Setting → Block → Option (List (List ℕ)) → Message
-said_newblock s b preds = message.NewBlock (record { block = b; preds = unwrap_or preds (graph_of s.rules.table.kind b.txns) })
+-- EVENTS
 
 -- one more message in the pool
 abbrev pub says : World → Node → Message → World
 says w from m = record { pool = w.pool ++ record { from = from; message = m } ∷ []; idle = w.idle; logs = w.logs }
 
--- EVENTS
-
 -- one event, where `all` ends within this many turns
 abbrev pub happens : Setting → ℕ → World → Event → Option World
 happens s turns w (event.Deliver msg to) = Some (delivered s w to (message_at w msg))
 happens s turns w event.All = all_from s turns 1 w
-happens s turns w (event.SayBlock from number prev items preds) = Some (says w from (said_newblock s (said_block s number prev items) preds))
+happens s turns w (event.SayBlock from number prev items preds) =
+    Some (says w from (said_newblock s.rules.table.kind (said_block (map s.rules.hash s.chain) s.pieces number prev items) preds))
 happens s turns w (event.SayCommit from commit) = Some (says w from (message.Commit commit))
 
 -- one event leads from one world to the other

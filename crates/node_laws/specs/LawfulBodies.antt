@@ -9,7 +9,8 @@ use Rattle.oxii_defs.specs.Lawful.{IsLawfulBody}
 use Rattle.node_defs.specs.Admission.{pieces_of}
 use Rattle.node_defs.specs.LawfulItems.{AreLawfulPieces, IsLawfulItem, AreLawfulLimits}
 use Rattle.node_defs.specs.Cutting.{AreAgreed}
-use Rattle.node_defs.specs.World.{Setting, named_config, named_txns}
+use Rattle.node_defs.specs.World.{Setting}
+use Rattle.node_defs.specs.Sayings.{config_named, txns_named}
 use Rattle.node_defs.specs.LawfulEvents.{AreNamed}
 
 -- where the limits and the items of the stream are lawful
@@ -25,4 +26,4 @@ LawfulPieces = (table : Table) (items : List Item) → All (IsLawfulItem table) 
 -- the items that a false block may name are what a lawful block carries
 abbrev pub NamedItemsMakeLawfulBodies : Type 0
 NamedItemsMakeLawfulBodies = (table : Table) (s : Setting) (items : List ℕ) →
-    AreLawfulPieces table s.pieces → AreNamed s items → IsLawfulBody table (named_txns s items) (named_config s items)
+    AreLawfulPieces table s.pieces → AreNamed s items → IsLawfulBody table (txns_named s.pieces items) (config_named s.pieces items)

@@ -16,7 +16,7 @@ use Rattle.par_top.specs.declared.status.Status.{Status}
 use Rattle.par_top.specs.declared.status.Status.TheVariants as status
 use Rattle.par_words.specs.declared.command.Command.{Command}
 use Rattle.par_words.specs.declared.command.Command.TheVariants.{Run, Graph, Soak}
-use Rattle.par_top.specs.Commands.{IsRunText, IsGraphText}
+use Rattle.command_text.specs.Commands.{IsRunText, IsGraphText}
 use Rattle.par_top.specs.Endings.{Ends}
 use Rattle.par_top.specs.Refusals.{IsRefusal, IsRefusedFor, Reads, refusal, too_long}
 use Rattle.par_top.specs.Texts.{HasRead, Prints}

@@ -1,10 +1,4 @@
 -- The lemmas of this crate.
-pub mod AgreedLemmas
-pub mod LawfulBlocks
-pub mod WorldTextLemmas
-pub mod WorldLemmas
-pub mod TextLemmas
 pub mod Complete
 pub mod SerialHeadlines
 pub mod Endings
-pub mod SoakWorlds

@@ -2,13 +2,25 @@
 use Rattle.std.specs.Prelude.{ℕ, ◌≡◌, Bool, true, false, List, [], Option}
 use Rattle.std.specs.Io.KnownBytes.{Appends}
 use Rattle.std.proofs.Common.{subst}
+use Rattle.node_defs.specs.Programs.{setting_of}
+use Rattle.node_defs.specs.Text.{IsTextOf}
+use Rattle.node_defs.proofs.LawfulEvents.{said_by_faulty}
+use Rattle.text_laws.proofs.SerialTexts.{tame_texts}
+use Rattle.txn_core.specs.States.{state_of}
 use Rattle.input_doc.specs.Inputs.{Input}
+use Rattle.input_doc.specs.LawfulInputs.{IsLawfulInput}
 use Rattle.input_doc.proofs.Once.{exactly_one}
 use Rattle.par_words.specs.declared.command.Command.TheVariants.{Run}
-use Rattle.par_top.specs.Traced.{IsTraceText}
+use Rattle.command_text.specs.Traced.{IsTraceText}
 use Rattle.par_top.specs.Texts.{IsHeadline}
-use Rattle.par_top.specs.Headline.{IsSerialHeadline}
-use Rattle.par_top.proofs.WorldLemmas.{serial_is}
+use Rattle.par_top.specs.Headline.{IsSerialHeadline, IsTame, IsSerialText}
+
+-- the text of a tame input is one of serial runs
+serial_is : (input : Input) (lines : List ℕ) → IsLawfulInput input →
+    IsTextOf input.table (state_of input.genesis) input.items input.limits input.faulty input.schedule lines → IsTame input → IsSerialText input lines
+serial_is input lines lawful printed tame =
+    tame_texts input.table (state_of input.genesis) input.items input.limits input.faulty input.schedule lines tame
+    (λ bodies. said_by_faulty (setting_of input.table (state_of input.genesis) input.items bodies input.faulty) input.schedule (lawful.schedule (state_of input.genesis) bodies).each) printed
 
 no_trace : (workers : ℕ) (traced : Bool) (input : Input) (lines : List ℕ) → IsTraceText traced workers input lines → traced ≡ false → lines ≡ []
 no_trace workers true input lines is asked = cc

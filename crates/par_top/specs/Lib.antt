@@ -19,9 +19,8 @@ pub use Rattle.input_doc.specs.LawfulInputs
 pub use Rattle.input_doc.specs.Held
 pub use Rattle.input_doc.specs.Means
 pub use Rattle.input_doc.specs.FirstFaults
-pub mod Traced
-pub mod Commands
-pub mod AgreedBlocks
+pub use Rattle.command_text.specs.Commands
+pub use Rattle.command_text.specs.Traced
 pub mod Faults
 pub mod Statuses
 pub mod Sayable

@@ -9,7 +9,7 @@ use Rattle.soak_text.specs.Summary.{IsSoakText}
 use Rattle.par_words.specs.Words.{Says}
 use Rattle.par_words.specs.declared.command.Command.{Command}
 use Rattle.par_words.specs.declared.command.Command.TheVariants.{Run, Graph, Soak}
-use Rattle.par_top.specs.Commands.{IsRunText, IsGraphText}
+use Rattle.command_text.specs.Commands.{IsRunText, IsGraphText}
 use Rattle.par_top.specs.Headline.{document_limit}
 
 -- the source was read to its end, and what it had means this input

@@ -15,9 +15,8 @@ ghost use Rattle.par_top.specs.Texts.{OfCommand, IsHeadline, IsWrittenPart, Prin
 ghost use Rattle.par_top.specs.Headline.{IsSerialHeadline, document_limit};
 
 use crate::document::read_document;
-use crate::soak::soak_summary;
-use crate::text::{graph_report, run_text};
 use crate::{DocFault, Gate, Status};
+use command_text::{graph_report, run_text, soak_summary};
 use par_io::{Sink, Source, write_all};
 use par_words::{Command, command_of};
 use std::alloc::Global;

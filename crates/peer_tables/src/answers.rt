@@ -7,8 +7,8 @@ ghost use Rattle.txn_core.specs.MeantTable.{table_of};
 
 use crate::Trouble;
 use crate::letters::letter;
-use crate::lines::{push_answer, push_peer};
 use peer_core::Peer;
+use peer_lines::{push_answer, push_peer};
 use row_settings::{Setting, setting_of};
 use std::alloc::Global;
 use std::thread::Threads;

@@ -3,8 +3,6 @@
 
 mod answers;
 mod letters;
-mod lines;
-mod trouble;
 
 pub use answers::{answered, in_force};
-pub use trouble::Trouble;
+pub use row_trouble::Trouble;

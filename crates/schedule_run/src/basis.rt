@@ -1,6 +1,6 @@
 //! What stays as it is in a world.
 
-use crate::start::Hashes;
+use message_pool::Hashes;
 use txn_core::Table;
 use txn_types::{Admitted, NodeSet};
 

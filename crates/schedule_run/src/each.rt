@@ -14,7 +14,7 @@ ghost use Rattle.world_laws.specs.Deliveries.{AddsBursts, deliveries_each};
 ghost use Rattle.world_laws.specs.Shown.{AreOfTable, IsLawfulLetter, IsReached, IsShown, Moves};
 
 use crate::giving::{give, list, send};
-use crate::letter::Letter;
+use message_pool::Letter;
 use peer_core::Peer;
 use std::alloc::Global;
 use std::thread::Threads;

@@ -7,7 +7,7 @@ ghost use Rattle.peer_turns.specs.Peers.{IsLawfulMessage};
 ghost use Rattle.world_laws.specs.Deliveries.{burst_at};
 ghost use Rattle.world_laws.specs.Shown.{Gave};
 
-use crate::letter::Letter;
+use message_pool::Letter;
 use peer_core::{BlockSpansList, Peer};
 use std::alloc::Global;
 use std::thread::Threads;

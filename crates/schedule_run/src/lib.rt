@@ -4,9 +4,7 @@
 mod basis;
 mod each;
 mod giving;
-mod letter;
 mod moving;
-mod sayings;
 mod scene;
 mod start;
 mod world;

@@ -5,7 +5,7 @@ ghost use Rattle.oxii_defs.specs.Lawful.{IsLawfulBody};
 ghost use Rattle.txn_types.specs.Values.{max_false};
 ghost use Rattle.txn_types.specs.declared.event.Event.TheVariants as event;
 ghost use Rattle.txn_core.specs.MeantTable.{table_of};
-ghost use Rattle.world_laws.specs.Sayings.{config_named, txns_named};
+ghost use Rattle.node_defs.specs.Sayings.{config_named, txns_named};
 ghost use Rattle.world_laws.specs.Shown.{idles};
 ghost use Rattle.world_laws.specs.Worlds.{CanTake, Follows, IsWellKept, with_said};
 ghost use Rattle.schedule_run.specs.declared.basis.Basis as basis;
@@ -13,9 +13,8 @@ ghost use Rattle.schedule_run.specs.Scenes.{world_of};
 
 use crate::basis::Basis;
 use crate::each::{give_all, give_one};
-use crate::letter::Letter;
-use crate::sayings::{block_with, newblock_with};
 use crate::scene::Scene;
+use message_pool::{Letter, said_block, said_newblock};
 use std::alloc::Global;
 use std::thread::Threads;
 use steal_pool::Gate;
@@ -120,8 +119,8 @@ fn say_block<'t>(
     ensures kept { OnOk result (IsWellKept (world_of basis.now scene.new)) }
     ensures follows { OnOk result ((workers : ℕ) → Follows workers (world_of basis.now scene.old) (event.SayBlock from number prev items.now preds ∷ []) (world_of basis.now scene.new)) }
 {
-    let block = block_with(alloc, &basis.hashes, &basis.pieces, number, prev, items)?;
-    let message = newblock_with(alloc, basis.table, block, preds)?;
+    let block = said_block(alloc, &basis.hashes, &basis.pieces, number, prev, items)?;
+    let message = said_newblock(alloc, basis.table.kind, block, preds)?;
     said(scene, from, message, items.len() as u32)?;
     Ok(())
 }

@@ -1,6 +1,6 @@
 //! What events move in a world.
 
-use crate::letter::Letter;
+use message_pool::Letter;
 use peer_core::Peer;
 use txn_types::GrowingList;
 use world_laws::Bursts;

@@ -19,7 +19,8 @@ ghost use Rattle.world_laws.specs.Worlds.{CanTake, Follows, HasBursts, IsWorldOf
 use crate::basis::Basis;
 use crate::moving::{happen, play};
 use crate::scene::Scene;
-use crate::start::{copy_pieces, first_pool, hashes_of, new_slots};
+use crate::start::{copy_pieces, new_slots};
+use message_pool::{first_pool, hashes_of};
 use peer_core::Peer;
 use std::alloc::Global;
 use std::marker::Model;

@@ -14,7 +14,7 @@ use Rattle.oxii_defs.specs.BlockBytes.{block_hash}
 use Rattle.oxii_defs.specs.Chain.{chain_from, no_hash}
 use Rattle.node_defs.specs.Admission.{piece_of, pieces_of}
 use Rattle.node_defs.specs.Cutting.{AdmittedItem, admitted, admitted_with, carried_body, config_in, mark_comes, txns_in_piece}
-use Rattle.node_defs.specs.World.{config_of_piece, txns_of_piece}
+use Rattle.node_defs.specs.Sayings.{config_of_piece, txns_of_piece}
 use Rattle.text_laws.specs.AgreedCounts.{AgreedBlocksCarryTheStream}
 
 abbrev one_if : Bool → ℕ

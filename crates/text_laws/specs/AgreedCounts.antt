@@ -8,7 +8,7 @@ use Rattle.oxii_defs.specs.Table.{Table}
 use Rattle.oxii_defs.specs.Chain.{chain}
 use Rattle.node_defs.specs.Admission.{pieces_of}
 use Rattle.node_defs.specs.Cutting.{AreAgreed}
-use Rattle.node_defs.specs.World.{config_of_piece, txns_of_piece}
+use Rattle.node_defs.specs.Sayings.{config_of_piece, txns_of_piece}
 
 -- the blocks have as many transactions as the stream has admitted, and no more configurations
 abbrev pub AgreedBlocksCarryTheStream : Type 0

@@ -21,50 +21,25 @@ use Rattle.txn_core.specs.MeantTable.{table_of}
 use Rattle.node_defs.specs.LawfulItems.{AreLawfulPieces}
 use Rattle.node_defs.specs.Rules.{Rules}
 use Rattle.node_defs.specs.Programs.{rules_of}
-use Rattle.node_defs.specs.World.{Setting, config_of_piece, hash_before, named_config, said_block, said_newblock, says, txns_of_piece}
+use Rattle.node_defs.specs.World.{Setting, says}
+use Rattle.node_defs.specs.Sayings.{config_named, said_block, said_newblock, txns_named, txns_of_piece}
 use Rattle.node_defs.specs.LawfulEvents.{AreNamed}
 use Rattle.node_defs.proofs.NamedItems.{named_items_are_lawful}
-use Rattle.world_laws.specs.Sayings.{block_with, config_named, hash_behind, newblock_with, txns_named}
 use Rattle.world_laws.specs.Worlds.{CanTake, Follows, IsSettingOf, KeptWorld, setting_with, with_said}
 use Rattle.world_laws.proofs.Moving.{follows_said}
 
 -- THE SAME MESSAGE
 
-config_same : (s : Setting) (items : List ℕ) → config_named s.pieces items ≡ named_config s items
-config_same s [] = refl
-config_same s (i ∷ rest) = ap (option_or (config_of_piece (get_or s.pieces i None))) (config_same s rest)
-
-hash_at : (hash : Block → List ℕ) (chain : List Block) (m : ℕ) → get_or (map hash chain) m no_hash ≡ elim (slice_get chain m) [ None ↦ no_hash | Some b ↦ hash b ]
-hash_at hash [] zero = refl
-hash_at hash [] (suc m) = refl
-hash_at hash (b ∷ chain) zero = refl
-hash_at hash (b ∷ chain) (suc m) = hash_at hash chain m
-
-hash_same : (s : Setting) (number : ℕ) → hash_behind (map s.rules.hash s.chain) number ≡ hash_before s number
-hash_same s zero = refl
-hash_same s (suc zero) = refl
-hash_same s (suc (suc m)) = hash_at s.rules.hash s.chain m
-
-block_same : (s : Setting) (number : ℕ) (prev : Option (List ℕ)) (items : List ℕ) → block_with (map s.rules.hash s.chain) s.pieces number prev items ≡ said_block s number prev items
-block_same s number prev items =
-    let hashes = map s.rules.hash s.chain in
-    ap (λ c. record { number = number; prev = unwrap_or prev (hash_behind hashes number); txns = txns_named s.pieces items; config = c }) (config_same s items)
-    ∙ ap (λ h. record { number = number; prev = unwrap_or prev h; txns = txns_named s.pieces items; config = named_config s items }) (hash_same s number)
-
-message_same : (table : Table) (genesis : State) (s : Setting) (b : Block) (preds : Option (List (List ℕ))) → s.rules ≡ rules_of (table_of table) genesis → newblock_with table b preds ≡ said_newblock s b preds
-message_same table genesis s b preds e = sym (ap (λ (r : Rules). said_newblock (record { rules = r; chain = s.chain; pieces = s.pieces; faulty = s.faulty }) b preds) e)
-
 said_same : (k : KeptWorld) (genesis : State) (s : Setting) (number : ℕ) (prev : Option (List ℕ)) (items : List ℕ) (preds : Option (List (List ℕ))) → IsSettingOf k genesis s →
-    newblock_with k.table (block_with k.hashes k.pieces number prev items) preds ≡ said_newblock s (said_block s number prev items) preds
+    said_newblock k.table.kind (said_block k.hashes k.pieces number prev items) preds ≡ said_newblock s.rules.table.kind (said_block (map s.rules.hash s.chain) s.pieces number prev items) preds
 said_same k genesis s number prev items preds v =
     let hash_is : block_hash (table_of k.table) ≡ s.rules.hash = sym (ap (λ (r : Rules). r.hash) v.rules_are) in
-    ap (λ hs. newblock_with k.table (block_with hs k.pieces number prev items) preds) (v.hashes_are ∙ ap (λ (h : Block → List ℕ). map h s.chain) hash_is)
-    ∙ (ap (λ ps. newblock_with k.table (block_with (map s.rules.hash s.chain) ps number prev items) preds) (sym v.pieces_are)
-    ∙ (ap (λ b. newblock_with k.table b preds) (block_same s number prev items)
-    ∙ message_same k.table genesis s (said_block s number prev items) preds v.rules_are))
+    ap (λ kind. said_newblock kind (said_block k.hashes k.pieces number prev items) preds) (sym (ap (λ (r : Rules). r.table.kind) v.rules_are))
+    ∙ (ap (λ hs. said_newblock s.rules.table.kind (said_block hs k.pieces number prev items) preds) (v.hashes_are ∙ ap (λ (h : Block → List ℕ). map h s.chain) hash_is)
+    ∙ ap (λ ps. said_newblock s.rules.table.kind (said_block (map s.rules.hash s.chain) ps number prev items) preds) (sym v.pieces_are))
 
 pub follows_block : (k : KeptWorld) (workers : ℕ) (from : Node) (number : ℕ) (prev : Option (List ℕ)) (items : List ℕ) (preds : Option (List (List ℕ))) (m : Message) (n : ℕ) →
-    m ≡ newblock_with k.table (block_with k.hashes k.pieces number prev items) preds → length items ≡ n →
+    m ≡ said_newblock k.table.kind (said_block k.hashes k.pieces number prev items) preds → length items ≡ n →
     Follows workers k (event.SayBlock from number prev items preds ∷ []) (with_said k from m n)
 follows_block k workers from number prev items preds m n e c = follows_said k workers (event.SayBlock from number prev items preds) from m n refl c
     (λ genesis s before v w. sym (ap (λ x. Some (says w from x)) (e ∙ said_same k genesis s number prev items preds v.setting)))
@@ -85,11 +60,8 @@ few_named pieces [] = omega arith
 few_named pieces (i ∷ rest) =
     omega (arith, no_more (get_or pieces i None), few_named pieces rest, length-append (txns_of_piece (get_or pieces i None)) (txns_named pieces rest))
 
-body_lawful : (table : meant.Table) (s : Setting) (items : List ℕ) → AreLawfulPieces table s.pieces → AreNamed s items → IsLawfulBody table (txns_named s.pieces items) (config_named s.pieces items)
-body_lawful table s items a n = subst (IsLawfulBody table (txns_named s.pieces items)) (sym (config_same s items)) (named_items_are_lawful table s items a n)
-
 -- what a false block that can be said carries
 pub said_body_lawful : (k : KeptWorld) (genesis : State) (from : Node) (number : ℕ) (prev : Option (List ℕ)) (items : List ℕ) (preds : Option (List (List ℕ))) → AreLawfulPieces (table_of k.table) k.pieces →
     CanTake k (event.SayBlock from number prev items preds ∷ []) → IsLawfulBody (table_of k.table) (txns_named k.pieces items) (config_named k.pieces items)
 said_body_lawful k genesis from number prev items preds a c =
-    body_lawful (table_of k.table) (setting_with (table_of k.table) genesis [] k.pieces k.faulty) items a (c.each genesis 0 (event.SayBlock from number prev items preds) (omega arith)).named
+    named_items_are_lawful (table_of k.table) (setting_with (table_of k.table) genesis [] k.pieces k.faulty) items a (c.each genesis 0 (event.SayBlock from number prev items preds) (omega arith)).named

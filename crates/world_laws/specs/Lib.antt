@@ -2,5 +2,4 @@
 pub mod Deliveries
 pub mod Shown
 pub mod Starts
-pub mod Sayings
 pub mod Worlds

@@ -4,22 +4,22 @@ ghost use Rattle.std.specs.Prelude.{◌≡◌, ◌<◌, ℕ, length, true};
 ghost use Rattle.board_defs.specs.Closure.{is_own};
 ghost use Rattle.board_work.specs.Plans.{IsRunnable, plan_of};
 
-use crate::tests::calls::{Want, misses, runs, takes};
-use board_settings::Task;
+use board_settings::{Task, Want, misses, runs, takes};
 use board_work::{Plan, Ran, Work};
+use row_trouble::Trouble;
 use std::alloc::Global;
 use std::process::Abort;
-use txn_types::{Kind, OutOfMemory};
+use txn_types::Kind;
 
 /// Three positions in a chain, run by one of two passes.
-#[tactic(auto, using(crate::proofs::PassLemmas::two_passes))]
+#[tactic(auto, using(board_settings::proofs::PassLemmas::two_passes))]
 pub fn relay<W: Work, T: Task>(
     rt: &impl Abort,
     alloc: Global,
     plan: &Plan<'_>,
     task: &T,
     wanted: &[Want; 3],
-) -> Result<Ran, OutOfMemory>
+) -> Result<Ran, Trouble>
     requires runnable { IsRunnable plan.now }
     requires task { T.plan task.now ≡ plan_of plan.now }
     requires own { (t : ℕ) → t < length plan.now.block.now.txns → is_own (plan_of plan.now) t ≡ true }
@@ -28,15 +28,15 @@ pub fn relay<W: Work, T: Task>(
     assert_eq!(rt; plan.block.txns.len(), 3);
     let (work, mut first) = W::plan(alloc, plan)?;
     let mut second = work.split(alloc, &mut first)?;
-    takes(rt, &work, &mut first, 0);
-    assert_eq!(rt; misses(rt, &work, &mut second, 0), None);
-    assert_eq!(rt; misses(rt, &work, &mut second, 1), Some(1));
-    runs(rt, &work, task, &mut first, 0, &wanted[0]);
-    takes(rt, &work, &mut first, 1);
-    assert_eq!(rt; misses(rt, &work, &mut first, 2), Some(1));
-    runs(rt, &work, task, &mut first, 1, &wanted[1]);
-    takes(rt, &work, &mut first, 2);
-    runs(rt, &work, task, &mut first, 2, &wanted[2]);
+    takes(&work, &mut first, 0)?;
+    assert_eq!(rt; misses(&work, &mut second, 0)?, None);
+    assert_eq!(rt; misses(&work, &mut second, 1)?, Some(1));
+    runs(&work, task, &mut first, 0, &wanted[0])?;
+    takes(&work, &mut first, 1)?;
+    assert_eq!(rt; misses(&work, &mut first, 2)?, Some(1));
+    runs(&work, task, &mut first, 1, &wanted[1])?;
+    takes(&work, &mut first, 2)?;
+    runs(&work, task, &mut first, 2, &wanted[2])?;
     let both = work.join(first, second);
     assert!(rt; W::untried(&both).is_none());
     Ok(work.close(both))
@@ -49,7 +49,7 @@ pub fn anti_dependency<W: Work, T: Task>(
     plan: &Plan<'_>,
     task: &T,
     wanted: &[Want; 2],
-) -> Result<(), OutOfMemory>
+) -> Result<(), Trouble>
     requires runnable { IsRunnable plan.now }
     requires task { T.plan task.now ≡ plan_of plan.now }
     requires own { (t : ℕ) → t < length plan.now.block.now.txns → is_own (plan_of plan.now) t ≡ true }
@@ -58,21 +58,21 @@ pub fn anti_dependency<W: Work, T: Task>(
     assert_eq!(rt; plan.block.txns.len(), 2);
     let (work, mut first) = W::plan(alloc, plan)?;
     let mut second = work.split(alloc, &mut first)?;
-    takes(rt, &work, &mut first, 0);
-    assert_eq!(rt; misses(rt, &work, &mut second, 1), Some(1));
-    runs(rt, &work, task, &mut first, 0, &wanted[0]);
+    takes(&work, &mut first, 0)?;
+    assert_eq!(rt; misses(&work, &mut second, 1)?, Some(1));
+    runs(&work, task, &mut first, 0, &wanted[0])?;
     Ok(())
 }
 
 /// A position that writes what an earlier one reads, by a pass of its own, and before it.
-#[tactic(auto, using(crate::proofs::PassLemmas::two_passes))]
+#[tactic(auto, using(board_settings::proofs::PassLemmas::two_passes))]
 pub fn beside<W: Work, T: Task>(
     rt: &impl Abort,
     alloc: Global,
     plan: &Plan<'_>,
     task: &T,
     wanted: &[Want; 2],
-) -> Result<Ran, OutOfMemory>
+) -> Result<Ran, Trouble>
     requires raw { W.RAW ≡ true }
     requires runnable { IsRunnable plan.now }
     requires task { T.plan task.now ≡ plan_of plan.now }
@@ -81,24 +81,24 @@ pub fn beside<W: Work, T: Task>(
     assert_eq!(rt; plan.block.txns.len(), 2);
     let (work, mut first) = W::plan(alloc, plan)?;
     let mut second = work.split(alloc, &mut first)?;
-    takes(rt, &work, &mut first, 0);
-    takes(rt, &work, &mut second, 1);
-    runs(rt, &work, task, &mut second, 1, &wanted[1]);
-    runs(rt, &work, task, &mut first, 0, &wanted[0]);
+    takes(&work, &mut first, 0)?;
+    takes(&work, &mut second, 1)?;
+    runs(&work, task, &mut second, 1, &wanted[1])?;
+    runs(&work, task, &mut first, 0, &wanted[0])?;
     let both = work.join(first, second);
     assert!(rt; W::untried(&both).is_none());
     Ok(work.close(both))
 }
 
 /// Two writers of one record side by side, then one that waits for both, then a reader.
-#[tactic(auto, using(crate::proofs::PassLemmas::two_passes))]
+#[tactic(auto, using(board_settings::proofs::PassLemmas::two_passes))]
 pub fn writers<W: Work, T: Task>(
     rt: &impl Abort,
     alloc: Global,
     plan: &Plan<'_>,
     task: &T,
     wanted: &[Want; 4],
-) -> Result<Ran, OutOfMemory>
+) -> Result<Ran, Trouble>
     requires raw { W.RAW ≡ true }
     requires runnable { IsRunnable plan.now }
     requires task { T.plan task.now ≡ plan_of plan.now }
@@ -107,15 +107,15 @@ pub fn writers<W: Work, T: Task>(
     assert_eq!(rt; plan.block.txns.len(), 4);
     let (work, mut first) = W::plan(alloc, plan)?;
     let mut second = work.split(alloc, &mut first)?;
-    takes(rt, &work, &mut first, 0);
-    takes(rt, &work, &mut second, 1);
-    assert_eq!(rt; misses(rt, &work, &mut second, 2), Some(2));
-    runs(rt, &work, task, &mut second, 1, &wanted[1]);
-    runs(rt, &work, task, &mut first, 0, &wanted[0]);
-    takes(rt, &work, &mut first, 2);
-    runs(rt, &work, task, &mut first, 2, &wanted[2]);
-    takes(rt, &work, &mut second, 3);
-    runs(rt, &work, task, &mut second, 3, &wanted[3]);
+    takes(&work, &mut first, 0)?;
+    takes(&work, &mut second, 1)?;
+    assert_eq!(rt; misses(&work, &mut second, 2)?, Some(2));
+    runs(&work, task, &mut second, 1, &wanted[1])?;
+    runs(&work, task, &mut first, 0, &wanted[0])?;
+    takes(&work, &mut first, 2)?;
+    runs(&work, task, &mut first, 2, &wanted[2])?;
+    takes(&work, &mut second, 3)?;
+    runs(&work, task, &mut second, 3, &wanted[3])?;
     let both = work.join(first, second);
     assert!(rt; W::untried(&both).is_none());
     Ok(work.close(both))

@@ -1,0 +1,19 @@
+-- The definitions of this crate, with those of lower crates that its clauses cite.
+pub use Rattle.oxii_defs.specs.Lines
+pub use Rattle.board_defs.specs.Trace
+pub use Rattle.node_defs.specs.Cutting
+pub use Rattle.node_defs.specs.AgreedSettings
+pub use Rattle.node_defs.specs.Text
+pub use Rattle.node_defs.specs.GraphText
+pub use Rattle.txn_core.specs.States
+pub use Rattle.peer_laws.specs.Runs
+pub use Rattle.peer_turns.specs.Traces
+pub use Rattle.world_laws.specs.Deliveries
+pub use Rattle.report_text.specs.BurstText
+pub use Rattle.soak_text.specs.Summary
+pub use Rattle.input_doc.specs.Inputs
+pub use Rattle.input_doc.specs.LawfulInputs
+pub use Rattle.input_doc.specs.Held
+pub mod AgreedBlocks
+pub mod Traced
+pub mod Commands

@@ -1,7 +1,0 @@
--- What the check of `graph_report` leaves to show.
-use Rattle.input_doc.specs.Held.{input_of}
-use Rattle.par_top.proofs.TextLemmas.{graph_text_is}
-use Rattle.par_top.proofs.text.graph_report.Goals as goal
-
-pub returns : goal.returns
-returns c = graph_text_is (input_of c.args.input.now) _ _ _ _ _ c.as_slice.ensures c.in_ok-agreed.ensures.rejected c.in_ok-agreed.ensures.blocks c.new-text.ensures c.in_ok-push_graph_text.ensures

@@ -1,0 +1,5 @@
+//! Worked rows of boards, by two threads.
+#![tactic(auto)]
+
+#[cfg(test)]
+mod tests;
