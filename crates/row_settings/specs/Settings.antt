@@ -8,6 +8,8 @@ use Rattle.txn_core.specs.declared.table.Table.{Table}
 use Rattle.txn_core.specs.MeantTable.{table_of}
 use Rattle.input_doc.specs.Inputs.{Input}
 use Rattle.input_doc.specs.Means.{Means}
+use Rattle.input_doc.specs.FirstFaults.{IsFaultOf}
+use Rattle.doc_forms.specs.declared.fault.DocFault.{DocFault}
 
 -- ' stands for the quotation mark
 abbrev pub quoted_byte : ℕ → ℕ
@@ -21,3 +23,7 @@ pub record IsOfDocument (document : List ℕ) (table : Table) (genesis : List �
   pub genesis_is : genesis ≡ input.genesis
   pub agreed : AreAgreed input.table input.limits input.items bodies
   pub chained : blocks ≡ chain input.table bodies
+
+-- some fault is that of these bytes
+abbrev pub HasSomeFault : List ℕ → Type 0
+HasSomeFault bytes = (fault : DocFault) × IsFaultOf bytes fault
