@@ -1,5 +1,5 @@
 #!/usr/bin/env python3
-"""Tells which definitions a page names that don't stand in the files where it says that they do.
+"""Reports which definitions a page names that aren't in the files where it says that they are.
 
 Usage: tools/cited.py PAGE
 
@@ -38,13 +38,20 @@ def declares(path, name):
 
 
 def main(arguments):
-    cited = list(named(Path(arguments[0]).read_text()))
+    if len(arguments) != 1:
+        sys.exit("usage: tools/cited.py PAGE")
+    try:
+        cited = list(named(Path(arguments[0]).read_text()))
+    except (OSError, UnicodeDecodeError) as error:
+        sys.exit(f"cited: cannot read {arguments[0]}: {error}")
+    if not cited:
+        sys.exit(f"cited: {arguments[0]} names no definition")
     wrong = [(n, c, f, x) for n, c, f, x in cited if not declares(CRATES / c / "specs" / f"{f}.antt", x)]
     for number, crate, file, name in wrong:
         print(f"{arguments[0]}:{number}: {crate}/specs/{file}.antt doesn't declare {name}", file=sys.stderr)
-    if wrong or not cited:
+    if wrong:
         return 1
-    print(f"cited: {arguments[0]} names {len(cited)} definitions where they stand")
+    print(f"cited: {arguments[0]} names {len(cited)} definitions where they are")
     return 0
 
 

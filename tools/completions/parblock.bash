@@ -6,7 +6,7 @@ _parblock() {
     elif [ "$before" = --workers ]; then
         mapfile -t COMPREPLY < <(compgen -W "1 2 3 4 5 6 7 8 9 10 11 12 13 14 15 16" -- "$word")
     elif [ "${COMP_WORDS[1]}" = run ]; then
-        mapfile -t COMPREPLY < <(compgen -W "--workers --trace" -- "$word")
+        mapfile -t COMPREPLY < <(compgen -W "--workers --trace --evidence" -- "$word")
     elif [ "${COMP_WORDS[1]}" = soak ]; then
         mapfile -t COMPREPLY < <(compgen -W "--seed --txns --workers" -- "$word")
     fi

@@ -30,7 +30,7 @@ pub record IsOpen (table : Table) (limits : CutLimits) (txns : List Txn) (bytes 
   pub small : bytes ≤ limits.bytes
   pub unmarked : HasNoMark current
 
--- blocks so far of a cutting of all admitted items: `closed` end rightly however `current` goes on, and a mark stands behind `current` where one comes next
+-- blocks so far of a cutting of all admitted items: `closed` end rightly however `current` goes on, and a mark is after `current` where one comes next
 pub record Stands (table : Table) (limits : CutLimits) (all : List AdmittedItem) (marked : Bool) (left : List AdmittedItem) (bodies : List Body) (txns : List Txn) (bytes : ℕ) : Type 0 where
   pub closed : List (List AdmittedItem)
   pub current : List AdmittedItem

@@ -8,14 +8,14 @@ use Rattle.node_defs.specs.Cutting.{AdmittedItem}
 use Rattle.block_cutter.specs.Standing.{Stands, StandsBefore}
 use Rattle.block_cutter.specs.declared.blocks.BlockCutter.{BlockCutter}
 
--- what stood before an admitted piece stands behind it
+-- what was before an admitted piece is after it
 abbrev pub TakesPiece : Table → CutLimits → Piece → BlockCutter → BlockCutter → Type 0
 TakesPiece table limits piece old new =
     (all : List AdmittedItem) (marked : Bool) (left : List AdmittedItem)
     → Stands table limits all false (record { piece = piece; marked = marked } ∷ left) old.bodies old.current.txns old.current.bytes
     → Stands table limits all marked left new.bodies new.current.txns new.current.bytes
 
--- what stood before an item stands behind it
+-- what was before an item is after it
 abbrev pub TakesItem : Table → CutLimits → Item → BlockCutter → BlockCutter → Type 0
 TakesItem table limits item old new =
     (all : List AdmittedItem) (left : List Item)

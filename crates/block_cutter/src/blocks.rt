@@ -92,7 +92,7 @@ impl BlockCutter {
         Ok(())
     }
 
-    /// Closes the open block, and puts a configuration behind it.
+    /// Closes the open block, and puts a configuration after it.
     pub fn configure(&mut self, alloc: Global, config: &Config) -> Result<(), OutOfMemory>
         ensures bodies { OnOk result (self.new.bodies ≡ (self.old.bodies ++ block_of self.old.current.txns) ++ record { txns = []; config = Some config.now } ∷ []) }
         ensures txns { OnOk result (self.new.current.txns ≡ []) }

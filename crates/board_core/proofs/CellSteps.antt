@@ -12,7 +12,7 @@ use Rattle.board_core.specs.Words.{need_at, turn_at, part_at, value_place, need,
 use Rattle.board_core.specs.Script.{Script, IsOwn, Uses, Gives, IsAfter, serial_value}
 use Rattle.board_core.specs.Sums.{counters_of, CellSums, cell_sums}
 use Rattle.board_core.specs.Rule.{Cells, Apart, Holds, IsLive}
-use Rattle.board_core.specs.Steps.{publishing, writing, LoadsValue, Puts}
+use Rattle.board_core.specs.Steps.{publishing, writing, LoadsValue, Sets, Puts}
 use Rattle.board_core.proofs.Totals.{hit_same, hit_else, hits, pair_hits, pair_le_first, grown, kept, total_at, total_some}
 use Rattle.board_core.proofs.Kept.{others_kept, counters_same, stamps_same, numbers_same, cells_same, keep_counters, keep_stamps, keep_numbers, keep_cells, keep_fixed, each_set}
 use Rattle.board_core.proofs.Cells.{all_counted, inputs_are_serial, writes_value, after_same}
@@ -129,9 +129,15 @@ publishes_cells p part part' value m t k few here others h = record {
   value_of_writers = h.value_of_writers;
 }
 
-pub publishes : (p : Script) (slots id : ℕ) (me : Me ℕ View) (t k : ℕ) → IsLive me.0 → 0 < times_first t me.0.begins → k < p.parts t
-    → Allows (Holds p) slots id me (part_at t k) (λ _. p.meant t k) (Puts (publishing t k) (step slots (part_at t k) (p.meant t k) 0 none) me)
-publishes p slots id me t k live begun lk s h homes at fits = let v = me.0 in let n = p.meant t k in let w = publishing t k v in let ws' = set s.words (part_at t k) n in let a = h.each id v at in let c = counters_same s.views id v w at refl in
+-- what no pass has published is 0
+empty_word : (p : Script) (s : State ℕ View) (id : ℕ) (v : View) (t k : ℕ) → Holds p s → get_elem? s.views id ≡ some v → Held p s v t → k < p.parts t → times_pair t k v.published ≡ 0 → part s.words t k ≡ 0
+empty_word p s id v t k h at has lk unset =
+    let one = alone p s id v t (λ u. times_pair t k u.published) h at has.has (λ u q pos. let le = pair_le_first t k u.published in q.cells.published_is_begun t (omega arith)) in
+    ⊎_elim (λ z. z.1) (λ z. let b = z.0 in absurd (omega arith)) (h.cells.published_as_meant t k has.own lk)
+
+pub publishes : (p : Script) (slots id : ℕ) (me : Me ℕ View) (t k : ℕ) → IsLive me.0 → 0 < times_first t me.0.begins → times_first t me.0.finishes ≡ 0 → k < p.parts t → times_pair t k me.0.published ≡ 0
+    → Allows (Holds p) slots id me (part_at t k) (λ _. p.meant t k) (Sets (publishing t k) (step slots (part_at t k) (p.meant t k) 0 none) me)
+publishes p slots id me t k live begun unfinished lk unset s h homes at fits = let v = me.0 in let n = p.meant t k in let w = publishing t k v in let ws' = set s.words (part_at t k) n in let a = h.each id v at in let c = counters_same s.views id v w at refl in
     let taken = a.stamps.begun_is_taken t in let has : 0 < times t v.taken = omega arith in let own = (taken_at_most_once p s id v t h at has).0 in let l = h.sound.own_is_below t own in let few = h.sound.parts_few t in let size = h.sized in let size0 = size.0 in (
       w,
       keeps,
@@ -161,7 +167,7 @@ publishes p slots id me t k live begun lk s h homes at fits = let v = me.0 in le
           passes_capped = a.passes_capped;
         } h.each;
       },
-      refl,
+      (refl, empty_word p s id v t k h at (held p s id v t h at begun unfinished) lk unset),
     )
 
 -- WriteValue: the cells alone

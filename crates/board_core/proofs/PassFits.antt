@@ -229,6 +229,7 @@ pub settled_joined : (p : Script) (v u : View) → IsSettled p v → IsSettled p
 settled_joined p v u h k = record {
   counted = λ s t pos. let a = times_first-append s v.finishes u.finishes in let b = times_pair-append s t v.counted u.counted in
       dite (ℕ_discrete (times_first s v.finishes) 0) (λ z. let c = k.counted s t (omega arith) in omega arith) (λ n. let c = h.counted s t (omega arith) in omega arith);
+  unpublished = λ t z. let a = times_first-append t v.finishes u.finishes in let b = times_first-append t v.published u.published in let c = h.unpublished t (omega arith) in let d = k.unpublished t (omega arith) in omega arith;
   unwritten = λ t z. let a = times_first-append t v.finishes u.finishes in let b = times_first-append t v.written u.written in let c = h.unwritten t (omega arith) in let d = k.unwritten t (omega arith) in omega arith;
   runs = λ t pos. let a = times_first-append t v.begins u.begins in dite (ℕ_discrete (times_first t v.begins) 0) (λ z. k.runs t (omega arith)) (λ n. h.runs t (omega arith));
   taken_begun = λ t pos. let a = times-append t v.taken u.taken in let b = times_first-append t v.begins u.begins in dite (ℕ_discrete (times t v.taken) 0) (λ z. let c = k.taken_begun t (omega arith) in omega arith) (λ n. let c = h.taken_begun t (omega arith) in omega arith);
@@ -237,10 +238,15 @@ settled_joined p v u h k = record {
 }
 
 -- publishing and writing
+pub published_none : (t : ℕ) (v : View) → Published 0 t v v
+published_none t v = record { same = refl; all = λ k l. absurd (omega arith); rest = λ k l. refl; others = λ x ne. refl }
+
 pub published_more : (n t : ℕ) (v w : View) → Published n t v w → Published (n + 1) t v (publishing t n w)
 published_more n t v w h = record {
   same = ap (λ (z : View). record z { published = (t, n) ∷ w.published }) h.same;
   all = λ k l. dite (ℕ_discrete k n) (λ e. subst (λ z. 0 < times_pair t z ((t, n) ∷ w.published)) (sym e) (let a = hit_pair_same t n in omega arith)) (λ ne. let a = h.all k (omega arith) in omega arith);
+  rest = λ k l. let b = h.rest k (omega arith) in ⊎_elim (λ q. let e = q.1 in absurd (omega arith)) (λ q. let a = q.1 in omega arith) (pair_hits t k (t, n));
+  others = λ x ne. let a = hit_else x t (λ e. ne (sym e)) in let b = h.others x ne in omega arith;
 }
 
 pub wrote_none : (t : ℕ) (records : List ℕ) (cells : List (Option ℕ)) (v : View) → Wrote 0 t records cells v v

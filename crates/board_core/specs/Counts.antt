@@ -53,7 +53,7 @@ noted false t xs = xs
 abbrev pub Run : Type 0
 Run = ℕ × ℕ × ℕ × ℕ
 
--- the run stands in the list
+-- the run is in the list
 abbrev pub IsAmong : Run → List Run → Type 0
 IsAmong r [] = ⊥
 IsAmong r (x ∷ xs) = (x ≡ r) ⊎ IsAmong r xs

@@ -8,6 +8,8 @@ use Rattle.board_core.specs.Steps.{writing}
 pub record Published (n t : ℕ) (v w : View) : Type 0 where
   pub same : w ≡ record v { published = w.published }
   pub all : (k : ℕ) → k < n → 0 < times_pair t k w.published
+  pub rest : (k : ℕ) → n ≤ k → times_pair t k w.published ≡ times_pair t k v.published
+  pub others : (x : ℕ) → x ≢ t → times_first x w.published ≡ times_first x v.published
 
 -- one entry is written, where there is one
 abbrev pub Entered : Option ℕ → ℕ → ℕ → View → View → Type 0

@@ -12,7 +12,7 @@ use Rattle.board_core.specs.Steps.{loaded, swapped, begun, finished}
 abbrev pub AreFlags : List ℕ → List Bool → Type 0
 AreFlags xs flags = (t : ℕ) → t < length flags → (slice_index_or flags t false ≡ true → 0 < times t xs) × (0 < times t xs → slice_index_or flags t false ≡ true)
 
--- the fields of a pass, with a place for each position, fit what its seat knows: flags of its duties and of what it tried, begin stamps with 1 added and 0 for none, and runs
+-- the fields of a pass, with a position for each position, fit what its seat knows: flags of its duties and of what it tried, begin stamps with 1 added and 0 for none, and runs
 pub record Fits (v : View) (duty tried : List Bool) (begins : List ℕ) (run_at : ℕ → Option Run) : Type 0 where
   pub live : IsLive v
   pub as_long : (length tried ≡ length duty) × (length begins ≡ length duty)
@@ -30,11 +30,12 @@ pub record AreRuns (v : View) : Type 0 where
   pub finished : (r : Run) → IsAmong r v.spans → 0 < times_pair r.0 r.3 v.finishes
   pub each : (t : ℕ) → times_run t v.spans ≡ times_first t v.finishes
 
--- PassSettled: between two calls all edges of what is finished are counted, and what is taken has begun. What isn't finished has written
--- nothing, what has begun runs, and each duty is an own position.
+-- PassSettled: between two calls all edges of what is finished are counted, and what is taken has begun. What isn't finished has published
+-- and written nothing, what has begun runs, and each duty is an own position.
 pub record IsSettled (p : Script) (v : View) : Type 0 where
   pub counted : (s t : ℕ) → 0 < times_first s v.finishes → p.edge s t ≤ times_pair s t v.counted
   pub taken_begun : (t : ℕ) → 0 < times t v.taken → 0 < times_first t v.begins
+  pub unpublished : (t : ℕ) → times_first t v.finishes ≡ 0 → times_first t v.published ≡ 0
   pub unwritten : (t : ℕ) → times_first t v.finishes ≡ 0 → times_first t v.written ≡ 0
   pub runs : (t : ℕ) → 0 < times_first t v.begins → Runs p t
   pub duties_own : (t : ℕ) → 0 < times t v.duties → IsOwn p t
@@ -45,11 +46,11 @@ pub record IsHeld (v : View) (t : ℕ) : Type 0 where
   pub begun : 0 < times_first t v.begins
   pub unfinished : times_first t v.finishes ≡ 0
 
--- what a take of t makes of the pass
-abbrev pub Takes : Take → ℕ → View → View → Type 0
-Takes Taken t v w = (b : ℕ) × (times_first t v.begins ≡ 0) × (times_first t v.finishes ≡ 0) × (w ≡ begun t b (swapped t 0 (loaded t 0 v)))
-Takes (NotReady n) t v w = (n ≢ 0) × (times t v.duties ≡ 0) × (w ≡ loaded t n v)
-Takes Gone t v w = (turn : ℕ) × (turn ≢ 0) × (w ≡ swapped t turn (loaded t 0 v))
+-- what a take of t makes of the pass; what it hands out is t
+abbrev pub Takes : {T : Type 0} → (T → ℕ) → Take T → ℕ → View → View → Type 0
+Takes position (Taken x) t v w = (position x ≡ t) × (b : ℕ) × (times_first t v.begins ≡ 0) × (times_first t v.finishes ≡ 0) × (w ≡ begun t b (swapped t 0 (loaded t 0 v)))
+Takes position (NotReady n) t v w = (n ≢ 0) × (times t v.duties ≡ 0) × (w ≡ loaded t n v)
+Takes position Gone t v w = (turn : ℕ) × (turn ≢ 0) × (w ≡ swapped t turn (loaded t 0 v))
 
 -- what a finish of t makes of the pass: its finish stamp and its run, and the duties that it made
 pub record Ends (t : ℕ) (v w : View) (made : List ℕ) : Type 0 where

@@ -1,5 +1,5 @@
 -- The rule of a board: what holds of the words and of what all passes know, between any two steps.
--- It is cut into themes, each over words and totals of its own, so that a step that leaves a theme alone keeps it as it stands.
+-- It is cut into themes, each over words and totals of its own, so that a step that leaves a theme alone keeps it as it is.
 use Rattle.std.specs.Prelude.{◌≡◌, ℕ, true, ◌+◌, ◌*◌, ◌<◌, ◌≤◌, ◌⊎◌, List, [], length}
 use mathlib.Core.Option.{some}
 use lib.ListN.{get_elem?}
@@ -55,7 +55,7 @@ abbrev pub Fixed : Script → (ℕ → ℕ → ℕ) → Type 0
 Fixed p part = (t k : ℕ) → p.fixed t k ≡ true → part t k ≡ p.meant t k
 
 -- WHAT HOLDS OF ONE PASS ALONE
--- Each record names the lists that it is about, so that a step that leaves these alone keeps it as it stands.
+-- Each record names the lists that it is about, so that a step that leaves these alone keeps it as it is.
 
 pub record StampsApart (taken : List ℕ) (counted begins finishes : List (ℕ × ℕ)) : Type 0 where
   -- StampsInOrder: only what is taken has a begin stamp, only what has one has a finish stamp, and a begin is below its finish

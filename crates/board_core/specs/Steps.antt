@@ -1,4 +1,4 @@
--- Each kind of step: what it makes of the acting pass, and what it tells.
+-- Each kind of step: what it makes of the acting pass, and what it says.
 use Rattle.std.specs.Prelude.{◌≡◌, ◌==◌, ℕ, zero, suc, ◌&&◌, ◌+◌, ◌<◌, ◌≤◌, List, [], ◌∷◌, ◌++◌, min}
 use Rattle.atomic_table.specs.Table.{Me, Step}
 use Rattle.board_core.specs.declared.view.View.{View}
@@ -94,6 +94,10 @@ Finishes t begin st m found m' = (m' ≡ (finished t begin found m.0, m.1)) × (
 -- a load of a value or of a part: it is x
 abbrev pub LoadsValue : ℕ → Step ℕ → Me ℕ View → ℕ → Me ℕ View → Type 0
 LoadsValue x st m found m' = (m' ≡ m) × (found ≡ x)
+
+-- a swap that finds 0: what is set was not set before
+abbrev pub Sets : (View → View) → Step ℕ → Me ℕ View → ℕ → Me ℕ View → Type 0
+Sets f st m found m' = (m' ≡ (f m.0, m.1)) × (found ≡ 0)
 
 -- a swap, whatever was found
 abbrev pub Puts : (View → View) → Step ℕ → Me ℕ View → ℕ → Me ℕ View → Type 0

@@ -43,7 +43,7 @@ pub record StampPart : Type 0 where
 abbrev pub stamp_part : View → StampPart
 stamp_part v = record { begins = v.begins; finishes = v.finishes }
 
--- how often each stamp, and each position with a stamp, stands in the lists of all passes
+-- how often each stamp, and each position with a stamp, is in the lists of all passes
 pub record StampSums : Type 0 where
   pub begins : ℕ → ℕ → ℕ
   pub finishes : ℕ → ℕ → ℕ

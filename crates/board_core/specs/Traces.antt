@@ -1,4 +1,4 @@
--- What the last pass knows of the runs: by place, they are a lawful trace.
+-- What the last pass knows of the runs: by position, they are a lawful trace.
 use Rattle.std.specs.Prelude.{◌≡◌, ℕ, Bool, true, false, ◌+◌, ◌*◌, ◌<◌, Option, Some, None, is_some}
 use Rattle.board_core.specs.declared.view.View.{View}
 use Rattle.board_core.specs.Counts.{hit, times, below, once_below, Run, IsAmong}
@@ -18,10 +18,10 @@ stamp_hits x None = 0
 stamp_hits x (Some r) = hit x r.2 + hit x r.3
 
 pub record IsTrace (p : Script) (v : View) (run_at : ℕ → Option Run) : Type 0 where
-  -- what runs has a run at its place, and nothing else has
+  -- what runs has a run at its position, and nothing else has
   pub ran : (t : ℕ) → Runs p t → is_some (run_at t) ≡ true
   pub rested : (t : ℕ) → (Runs p t → ⊥) → run_at t ≡ None
-  -- the runs at the places are those of the pass
+  -- the runs at the positions are those of the pass
   pub place : (t : ℕ) (r : Run) → run_at t ≡ Some r → (r.0 ≡ t) × IsAmong r v.spans
   pub known : (r : Run) → IsAmong r v.spans → run_at r.0 ≡ Some r
   -- each is by a pass that was taken in, and there are 16 at most

@@ -1,11 +1,11 @@
--- The words of a board: those of a position stand at odd places, those of a record at even ones.
+-- The words of a board: those of a position are at odd positions, those of a record at even ones.
 use Rattle.std.specs.Prelude.{ℕ, ◌+◌, ◌*◌, List, slice_index}
 
 -- the clock: how many stamps were drawn
 abbrev pub clock : List ℕ → ℕ
 clock ws = slice_index ws 0
 
--- where the words of a position stand: its need, its turn, its outcome word and its result words
+-- where the words of a position are: its need, its turn, its outcome word and its result words
 abbrev pub need_at : ℕ → ℕ
 need_at t = 38 * t + 1
 
@@ -15,7 +15,7 @@ turn_at t = 38 * t + 3
 abbrev pub part_at : ℕ → ℕ → ℕ
 part_at t k = 38 * t + 5 + 2 * k
 
--- where the value word of a record stands
+-- where the value word of a record is
 abbrev pub value_place : ℕ → ℕ
 value_place r = 2 * r + 2
 
@@ -27,7 +27,7 @@ need ws t = slice_index ws (need_at t)
 abbrev pub turn : List ℕ → ℕ → ℕ
 turn ws t = slice_index ws (turn_at t)
 
--- the outcome word of t, and behind it a result word for each record that it writes; 0 where it isn't published
+-- the outcome word of t, and after it a result word for each record that it writes; 0 where it isn't published
 abbrev pub part : List ℕ → ℕ → ℕ → ℕ
 part ws t k = slice_index ws (part_at t k)
 

@@ -1,7 +1,7 @@
 /// What a take answers.
-pub enum Take {
-    /// The pass holds the position.
-    Taken,
+pub enum Take<T> {
+    /// The pass holds the position, which is handed out.
+    Taken(T),
     /// So many predecessors weren't finished.
     NotReady(u64),
     /// Another pass took it.

@@ -16,7 +16,7 @@ abbrev pub in_turn : ℕ → List (List Span) → List Span
 in_turn before [] = []
 in_turn before (round ∷ rest) = map (raised_span (2 * before)) round ++ in_turn (before + length round) rest
 
--- a span at its place by position
+-- a span where it belongs by position
 abbrev pub put_span : Span → List Span → List Span
 put_span s [] = s ∷ []
 put_span s (x ∷ rest) = if nat_lt s.position x.position then s ∷ x ∷ rest else x ∷ put_span s rest

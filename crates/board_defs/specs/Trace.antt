@@ -18,7 +18,7 @@ pub record Span : Type 0 where
 abbrev pub stamps : List Span → List ℕ
 stamps spans = flat_map (λ s. s.begin ∷ s.finish ∷ []) spans
 
--- one span for each of the rising positions, in order; each stamp once; a position begins behind the finish of each one that it depends on
+-- one span for each of the rising positions, in order; each stamp once; a position begins after the finish of each one that it depends on
 pub record IsLawfulTrace (kind : Kind) (txns : List Txn) (workers : ℕ) (positions : List ℕ) (spans : List Span) : Type 0 where
   pub rising : IsStrictlyIncreasing positions
   pub one_each : map (λ s. s.position) spans ≡ positions

@@ -42,7 +42,7 @@ pub record IsLast (p : Script) (v : View) : Type 0 where
 
 -- what a pass keeps is the same, whatever the words keep
 pub settled_for : (layout : Layout) (plan : Plan) (v : View) → IsSettled (script plan) v → IsSettled (script_of layout plan) v
-settled_for layout plan v h = record { counted = h.counted; taken_begun = h.taken_begun; unwritten = h.unwritten; runs = h.runs; duties_own = h.duties_own; spans = h.spans }
+settled_for layout plan v h = record { counted = h.counted; taken_begun = h.taken_begun; unpublished = h.unpublished; unwritten = h.unwritten; runs = h.runs; duties_own = h.duties_own; spans = h.spans }
 
 pub last_is : (layout : Layout) (key mine : Plan) (v u : View) → mine ≡ key → v ≡ u → IsSettled (script mine) v → IsComplete u → ((t : ℕ) → 0 < times t u.duties → 0 < times t u.tried) → ((t : ℕ) → 0 < times_first t u.begins → 0 < times_first t u.finishes) → IsLast (script_of layout key) v
 last_is layout key mine v u same e settled complete tried free =

@@ -27,7 +27,7 @@ fresh_fits k passes duties duty tried begins runs long flags untried unbegun unr
 }
 
 pub fresh_settled : (p : Script) (k passes : ℕ) (duties : List ℕ) → ((t : ℕ) → 0 < times t duties → IsOwn p t) → IsSettled p (fresh k passes duties)
-fresh_settled p k passes duties own = record { counted = λ s t pos. absurd (omega arith); unwritten = λ t z. refl; runs = λ t pos. absurd (omega arith); duties_own = own; taken_begun = λ t pos. absurd (omega arith); spans = record { numbered = λ r never. absurd never; begun = λ r never. absurd never; finished = λ r never. absurd never; each = λ t. refl } }
+fresh_settled p k passes duties own = record { counted = λ s t pos. absurd (omega arith); unpublished = λ t z. refl; unwritten = λ t z. refl; runs = λ t pos. absurd (omega arith); duties_own = own; taken_begun = λ t pos. absurd (omega arith); spans = record { numbered = λ r never. absurd never; begun = λ r never. absurd never; finished = λ r never. absurd never; each = λ t. refl } }
 
 pub first_settled : (p first : Script) → ((t : ℕ) → IsOwn first t → IsOwn p t) → IsSettled p (first_view first)
 first_settled p first own = fresh_settled p 0 1 (ready_below first.size first) (λ t pos. own t (ready_low first.size first t pos).0)

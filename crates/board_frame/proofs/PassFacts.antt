@@ -20,13 +20,13 @@ use Rattle.board_core.proofs.PassFits.{AreEither}
 
 -- what stays settled
 pub settled_taken : (p : Script) (v w : View) (t b : ℕ) → Runs p t → w ≡ begun t b (swapped t 0 (loaded t 0 v)) → IsSettled p v → IsSettled p w
-settled_taken p v w t b runs e h = subst (IsSettled p) (sym e) record { counted = h.counted; unwritten = h.unwritten; runs = λ x pos. ⊎_elim (λ q. subst (Runs p) q.0 runs) (λ q. let z = q.1 in h.runs x (omega arith)) (hits x t); duties_own = h.duties_own; spans = record { numbered = h.spans.numbered; begun = λ r among. let z = h.spans.begun r among in omega arith; finished = h.spans.finished; each = h.spans.each }; taken_begun = λ x pos. ⊎_elim (λ q. let z = q.1 in omega arith) (λ q. let z = q.1 in let y = h.taken_begun x (omega arith) in omega arith) (hits x t) }
+settled_taken p v w t b runs e h = subst (IsSettled p) (sym e) record { counted = h.counted; unpublished = h.unpublished; unwritten = h.unwritten; runs = λ x pos. ⊎_elim (λ q. subst (Runs p) q.0 runs) (λ q. let z = q.1 in h.runs x (omega arith)) (hits x t); duties_own = h.duties_own; spans = record { numbered = h.spans.numbered; begun = λ r among. let z = h.spans.begun r among in omega arith; finished = h.spans.finished; each = h.spans.each }; taken_begun = λ x pos. ⊎_elim (λ q. let z = q.1 in omega arith) (λ q. let z = q.1 in let y = h.taken_begun x (omega arith) in omega arith) (hits x t) }
 
 pub settled_loaded : (p : Script) (v w : View) (t n : ℕ) → w ≡ loaded t n v → IsSettled p v → IsSettled p w
-settled_loaded p v w t n e h = subst (IsSettled p) (sym e) record { counted = h.counted; unwritten = h.unwritten; runs = h.runs; duties_own = h.duties_own; spans = record { numbered = h.spans.numbered; begun = h.spans.begun; finished = h.spans.finished; each = h.spans.each }; taken_begun = h.taken_begun }
+settled_loaded p v w t n e h = subst (IsSettled p) (sym e) record { counted = h.counted; unpublished = h.unpublished; unwritten = h.unwritten; runs = h.runs; duties_own = h.duties_own; spans = record { numbered = h.spans.numbered; begun = h.spans.begun; finished = h.spans.finished; each = h.spans.each }; taken_begun = h.taken_begun }
 
 pub settled_gone : (p : Script) (v w : View) (t n : ℕ) → n ≢ 0 → w ≡ swapped t n (loaded t 0 v) → IsSettled p v → IsSettled p w
-settled_gone p v w t n ne e h = subst (IsSettled p) (sym e) record { counted = h.counted; unwritten = h.unwritten; runs = h.runs; duties_own = h.duties_own; spans = record { numbered = h.spans.numbered; begun = h.spans.begun; finished = h.spans.finished; each = h.spans.each }; taken_begun = λ x pos. h.taken_begun x (subst (λ b. 0 < times x (noted b t v.taken)) (ne_eqb n 0 ne) pos) }
+settled_gone p v w t n ne e h = subst (IsSettled p) (sym e) record { counted = h.counted; unpublished = h.unpublished; unwritten = h.unwritten; runs = h.runs; duties_own = h.duties_own; spans = record { numbered = h.spans.numbered; begun = h.spans.begun; finished = h.spans.finished; each = h.spans.each }; taken_begun = λ x pos. h.taken_begun x (subst (λ b. 0 < times x (noted b t v.taken)) (ne_eqb n 0 ne) pos) }
 
 -- the runs after a finish
 runs_ended : (v w : View) (t begin f : ℕ) → w.numbers ≡ v.numbers → w.begins ≡ v.begins → w.finishes ≡ (t, f) ∷ v.finishes → w.spans ≡ (t, v.number, begin, f) ∷ v.spans → IsLive v → 0 < times_pair t begin v.begins → AreRuns v → AreRuns w
@@ -52,13 +52,15 @@ module _ (v a b c w : View) (t begin f : ℕ) (publish : a ≡ record v { publis
   pub ended_duties : (row made : List ℕ) → Counts row t c w [] made → (y : ℕ) → times y w.duties ≡ times y made + times y v.duties
   ended_duties row made counts y = let n = counts.duties y in let e : c.duties ≡ v.duties = ap (λ (z : View). z.duties) stamp ∙ (ap (λ (z : View). z.duties) write ∙ ap (λ (z : View). z.duties) publish) in let d = ap (times y) e in omega arith
 
-  pub ended_settled : (p : Script) (row made : List ℕ) → ((y : ℕ) → times y row ≡ p.edge t y) → ((x : ℕ) → x ≢ t → times_first x b.written ≡ times_first x a.written) → Counts row t c w [] made → ((y : ℕ) → 0 < times y made → p.own y ≡ true) → IsLive v → 0 < times_pair t begin v.begins → IsSettled p v → IsSettled p w
-  ended_settled p row made edges others counts made_own live has h = let finishes : w.finishes ≡ (t, f) ∷ v.finishes = ap (λ (z : View). z.finishes) is_ended in let begins : w.begins ≡ v.begins = ap (λ (z : View). z.begins) is_ended in
+  pub ended_settled : (p : Script) (row made : List ℕ) → ((y : ℕ) → times y row ≡ p.edge t y) → ((x : ℕ) → x ≢ t → times_first x a.published ≡ times_first x v.published) → ((x : ℕ) → x ≢ t → times_first x b.written ≡ times_first x a.written) → Counts row t c w [] made → ((y : ℕ) → 0 < times y made → p.own y ≡ true) → IsLive v → 0 < times_pair t begin v.begins → IsSettled p v → IsSettled p w
+  ended_settled p row made edges elsewhere others counts made_own live has h = let finishes : w.finishes ≡ (t, f) ∷ v.finishes = ap (λ (z : View). z.finishes) is_ended in let begins : w.begins ≡ v.begins = ap (λ (z : View). z.begins) is_ended in
+      let put : w.published ≡ a.published = ap (λ (z : View). z.published) is_ended in
       let writ : w.written ≡ b.written = ap (λ (z : View). z.written) is_ended in let was : a.written ≡ v.written = ap (λ (z : View). z.written) publish in
       let ec : c.counted ≡ v.counted = ap (λ (z : View). z.counted) stamp ∙ (ap (λ (z : View). z.counted) write ∙ ap (λ (z : View). z.counted) publish) in record {
         counted = λ s y pos. let fin = ap (times_first s) finishes in dite (ℕ_discrete s t)
             (λ e. subst (λ z. p.edge z y ≤ times_pair z y w.counted) (sym e) (let n = counts.counted y in let q = edges y in omega arith))
             (λ ne. let old = h.counted s y (⊎_elim (λ q. absurd (ne (sym q.0))) (λ q. let z = q.1 in omega arith) (hits s t)) in let o = counts.others s y ne in let e = ap (times_pair s y) ec in omega arith);
+        unpublished = λ x z. let fin = ap (times_first x) finishes in ⊎_elim (λ q. let d = q.1 in absurd (omega arith)) (λ q. let d = q.1 in let old = h.unpublished x (omega arith) in let o = elsewhere x (λ e. q.0 (sym e)) in let g = ap (times_first x) put in omega arith) (hits x t);
         unwritten = λ x z. let fin = ap (times_first x) finishes in ⊎_elim (λ q. let d = q.1 in absurd (omega arith)) (λ q. let d = q.1 in let old = h.unwritten x (omega arith) in let o = others x (λ e. q.0 (sym e)) in let g = ap (times_first x) writ in let m = ap (times_first x) was in omega arith) (hits x t);
         runs = λ x pos. h.runs x (subst (λ xs. 0 < times_first x xs) begins pos);
         duties_own = λ y pos. let d = ended_duties row made counts y in dite (ℕ_discrete (times y made) 0) (λ z. h.duties_own y (omega arith)) (λ n. made_own y (omega arith));

@@ -16,6 +16,7 @@ ghost use Rattle.board_work.specs.declared.layout.Layout.TheVariants.{Values};
 
 use crate::opening::open_frame;
 use crate::pass::{Marks, Pass, merge_flags, merge_runs, merge_stamps, no_marks, put_run};
+use crate::taken::{Evaluated, Taken};
 use atomic_table::Table;
 use board_core::View;
 use board_steps::{
@@ -109,24 +110,25 @@ impl Frame {
         self.rows.as_slice()[t].as_slice()
     }
 
-    pub(crate) fn take_at(&self, pass: &mut Pass, t: usize) -> Take
+    pub(crate) fn take_at(&self, pass: &mut Pass, t: u16) -> Take<Taken>
         requires of { IsPassOf self.now pass.old }
         requires own { is_own (told self.now.about) t ≡ true }
         ensures of { IsPassOf self.now pass.new }
-        ensures takes { Takes result t pass.old.view pass.new.view }
+        ensures takes { Takes (λ x. x) result t pass.old.view pass.new.view }
     {
         let words = &self.table.shared;
-        let need = load_need::<Brand>(words, &mut pass.seat, t);
+        let at = t as usize;
+        let need = load_need::<Brand>(words, &mut pass.seat, at);
         if need != 0 {
             return Take::NotReady(need);
         }
-        let turn = swap_turn::<Brand>(words, &mut pass.seat, t);
-        pass.tried[t] = true;
+        let turn = swap_turn::<Brand>(words, &mut pass.seat, at);
+        pass.tried[at] = true;
         if turn != 0 {
             return Take::Gone;
         }
-        pass.begins[t] = begin_stamp::<Brand>(words, &mut pass.seat, t) + 1;
-        Take::Taken
+        pass.begins[at] = begin_stamp::<Brand>(words, &mut pass.seat, at) + 1;
+        Take::Taken(Taken { t })
     }
 
     pub(crate) fn inputs_at(&self, pass: &mut Pass, t: usize, out: &mut [u64; 16])
@@ -365,12 +367,12 @@ impl Frame {
     }
 
     /// Takes an own position, where it is ready and no other pass has it.
-    pub fn take(&self, pass: &mut Pass, t: u16) -> Take
+    pub fn take(&self, pass: &mut Pass, t: u16) -> Take<Taken>
         requires of { IsOf (frame_home self.now) (pass_state pass.old) }
         requires own { is_own (frame_home self.now).plan t ≡ true }
-        ensures took { Took result t (pass_state pass.old) (pass_state pass.new) }
+        ensures took { Took (λ x. x) result t (pass_state pass.old) (pass_state pass.new) }
     {
-        self.take_at(pass, t as usize)
+        self.take_at(pass, t)
     }
 
     /// The value of each record that a held position reads, from the words that keep values.
@@ -386,14 +388,15 @@ impl Frame {
     }
 
     /// Finishes a held position. `made` lists the positions whose need reached 0 by this call.
-    pub fn finish(&self, pass: &mut Pass, t: u16, outcome: &Outcome, made: &mut Made)
+    pub fn finish(&self, pass: &mut Pass, evaluated: Evaluated, made: &mut Made)
         requires of { IsOf (frame_home self.now) (pass_state pass.old) }
-        requires held { IsHolding (pass_state pass.old) t }
-        requires meant { outcome.now ≡ meant_at (frame_home self.now).plan t }
+        requires held { IsHolding (pass_state pass.old) evaluated.position }
+        requires meant { evaluated.outcome ≡ meant_at (frame_home self.now).plan evaluated.position }
         requires empty { made.old ≡ [] }
-        ensures ended { Ended t (pass_state pass.old) (pass_state pass.new) made.new }
+        ensures ended { Ended evaluated.position (pass_state pass.old) (pass_state pass.new) made.new }
     {
-        self.finish_at(pass, t as usize, outcome, made)
+        let Evaluated { t, outcome } = evaluated;
+        self.finish_at(pass, t as usize, &outcome, made)
     }
 
     /// The least duty that was not tried.

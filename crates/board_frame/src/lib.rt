@@ -4,7 +4,9 @@
 mod frame;
 mod opening;
 mod pass;
+mod taken;
 
 pub use board_work::{Layout, Made, Own, Plan, Ran, Span, Spans, Take, Work};
 pub use frame::Frame;
 pub use pass::Pass;
+pub use taken::{Evaluated, Taken, evaluate};

@@ -11,7 +11,7 @@ use std::marker::Model;
 use std::snapshot::Snapshot;
 use txn_types::OutOfMemory;
 
-/// What one worker knows. Its lists have a place for each position, so that no call of a pass takes memory.
+/// What one worker knows. Its lists have an entry for each position, so that no call of a pass takes memory.
 #[derive(Drop)]
 pub struct Pass {
     pub(crate) seat: Seat<u8, View>,

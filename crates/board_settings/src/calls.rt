@@ -18,22 +18,23 @@ pub struct Want {
 }
 
 /// Takes a position that can be taken; `Trouble::Answer` where it isn't taken.
-pub fn takes<W: Work>(work: &W, pass: &mut W::Pass, t: u16) -> Result<(), Trouble>
+pub fn takes<W: Work>(work: &W, pass: &mut W::Pass, t: u16) -> Result<W::Taken, Trouble>
     requires of { IsOf (W.home work.now) (W.state pass.old) × IsFree (W.state pass.old) }
     requires own { is_own (W.home work.now).plan t ≡ true }
+    ensures taken { IfOk result (λ taken. W.position taken ≡ t) }
     ensures of { OnOk result (IsOf (W.home work.now) (W.state pass.new)) }
     ensures held { OnOk result ((W.state pass.new).held ≡ t ∷ []) }
     ensures numbers { OnOk result (((W.state pass.new).numbers ≡ (W.state pass.old).numbers) × ((W.state pass.new).passes ≡ (W.state pass.old).passes)) }
 {
     match work.take(pass, t) {
-        Take::Taken => Ok(()),
+        Take::Taken(taken) => Ok(taken),
         Take::NotReady(_) => Err(Trouble::Answer),
         Take::Gone => Err(Trouble::Answer),
     }
 }
 
-/// Tries a position that can't be taken: its need, or none where it is gone; `Trouble::Answer` where it is taken.
-pub fn misses<W: Work>(work: &W, pass: &mut W::Pass, t: u16) -> Result<Option<u64>, Trouble>
+/// Tries a position that can't be taken: its need, or none where it is gone; what is handed out where it is taken.
+pub fn misses<W: Work>(work: &W, pass: &mut W::Pass, t: u16) -> Result<Option<u64>, W::Taken>
     requires of { IsOf (W.home work.now) (W.state pass.old) }
     requires own { is_own (W.home work.now).plan t ≡ true }
     ensures of { IfOk result (λ need. IsOf (W.home work.now) (W.state pass.new)) }
@@ -41,7 +42,7 @@ pub fn misses<W: Work>(work: &W, pass: &mut W::Pass, t: u16) -> Result<Option<u6
     ensures numbers { IfOk result (λ need. ((W.state pass.new).numbers ≡ (W.state pass.old).numbers) × ((W.state pass.new).passes ≡ (W.state pass.old).passes)) }
 {
     match work.take(pass, t) {
-        Take::Taken => Err(Trouble::Answer),
+        Take::Taken(taken) => Err(taken),
         Take::NotReady(need) => Ok(Some(need)),
         Take::Gone => Ok(None),
     }
@@ -55,13 +56,13 @@ pub fn written(outcome: &Outcome) -> Option<u64> {
     }
 }
 
-fn is_wanted(want: &Want, read: u64, outcome: &Outcome, made: &Made) -> bool {
+fn is_wanted(want: &Want, read: u64, wrote: Option<u64>, made: &Made) -> bool {
     let as_read = match want.read {
         Some(value) => read == value,
         None => true,
     };
     as_read
-        && written(outcome) == want.wrote
+        && wrote == want.wrote
         && made.list().len() <= 1
         && made.list().first() == want.made.as_ref()
 }
@@ -73,9 +74,11 @@ pub fn runs<W: Work, T: Task>(
     task: &T,
     pass: &mut W::Pass,
     t: u16,
+    taken: W::Taken,
     want: &Want,
 ) -> Result<(), Trouble>
     requires of { IsOf (W.home work.now) (W.state pass.old) }
+    requires taken { W.position taken ≡ t }
     requires task { (T.plan task.now ≡ (W.home work.now).plan) × IsLawfulPlan (T.plan task.now) }
     requires place { t < length (T.plan task.now).txns }
     requires held { (W.state pass.old).held ≡ t ∷ [] }
@@ -84,10 +87,11 @@ pub fn runs<W: Work, T: Task>(
 {
     let mut inputs = [0; 16];
     work.inputs(pass, t, &mut inputs);
-    let outcome = task.run(t, &inputs);
+    let evaluated = task.run::<W>(t, &inputs, taken);
+    let wrote = written(W::outcome(&evaluated));
     let mut made = Made::new();
-    work.finish(pass, t, &outcome, &mut made);
-    if is_wanted(want, inputs[0], &outcome, &made) {
+    work.finish(pass, evaluated, &mut made);
+    if is_wanted(want, inputs[0], wrote, &made) {
         Ok(())
     } else {
         Err(Trouble::Answer)

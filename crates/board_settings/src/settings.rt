@@ -10,13 +10,13 @@ ghost use Rattle.board_settings.specs.Settings.{IsSet, plan_with};
 
 use crate::task::Task;
 use board_words::no_outcomes;
-use board_work::{Own, Plan};
+use board_work::{Own, Plan, Work};
 use dep_graph::build;
 use row_settings::setting_of;
 use row_trouble::Trouble;
 use std::alloc::Global;
-use txn_core::{Graph, Scratch, Table, op_named, run_txn};
-use txn_types::{Block, Bodies, Known, OutOfMemory, Outcome, Txns, Values};
+use txn_core::{Graph, Table};
+use txn_types::{Block, Bodies, Known, OutOfMemory, Txns, Values};
 
 /// What a plan is made of.
 #[derive(Drop)]
@@ -50,10 +50,9 @@ impl Setting {
 impl Task for Setting {
     ghost plan = { λ s. plan_with s.table s.base s.block s.known s.own };
 
-    fn run(&self, t: u16, inputs: &[u64; 16]) -> Outcome {
+    fn run<W: Work>(&self, t: u16, inputs: &[u64; 16], taken: W::Taken) -> W::Evaluated {
         let txn = &self.block.txns.as_slice()[t as usize];
-        let op = op_named(&self.table, txn);
-        run_txn(op, txn, inputs, &mut Scratch::new())
+        W::evaluate(&self.table, txn, inputs, taken)
     }
 }
 

@@ -1,4 +1,4 @@
--- The plan that an About tells of, what the core of a board knows of it, and the room that its words take.
+-- The plan that an About says of, what the core of a board knows of it, and the room that its words take.
 use Rattle.std.specs.Prelude.{◌≡◌, ℕ, ◌*◌, ◌<◌, ◌≤◌, length}
 use Rattle.board_defs.specs.Closure as closure
 use Rattle.txn_core.specs.MeantTable.{table_of}

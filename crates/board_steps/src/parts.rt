@@ -69,7 +69,7 @@ fn cell_word(cell: Option<u64>) -> u64
     }
 }
 
-/// The outcome word, and behind it the word of each entry.
+/// The outcome word, and after it the word of each entry.
 pub fn part_word(outcome: &Outcome, k: usize) -> u64
     requires { (cells : _) → outcome.now ≡ Commit cells → (j x : ℕ) → slice_index_or cells j None ≡ Some x → x < 4611686018427387904 }
     ensures { result ≡ word_of (Some outcome.now) k }
@@ -85,7 +85,7 @@ pub fn part_word(outcome: &Outcome, k: usize) -> u64
     }
 }
 
-/// Publishes the outcome word and each result word of t.
+/// Publishes the outcome word and each result word of t, once each.
 pub fn publish_all(
     words: &Words,
     count: usize,
@@ -96,14 +96,15 @@ pub fn publish_all(
     requires seat { (seat.old.table_id ≡ words.now.table_id) × IsLive seat.old.me.0 }
     requires place { (t < length (told words.now.key).txns) × HasRoom (told words.now.key) words.now.table_id.words }
     requires count { (count ≡ length (writes_at (told words.now.key) t)) × (count ≤ 16) }
-    requires held { 0 < times_first t seat.old.me.0.begins }
+    requires held { (0 < times_first t seat.old.me.0.begins) × (times_first t seat.old.me.0.finishes ≡ 0) }
+    requires unset { times_first t seat.old.me.0.published ≡ 0 }
     requires meant { outcome_at (told words.now.key) t ≡ Some outcome.now }
     requires small { (cells : _) → outcome.now ≡ Commit cells → (j x : ℕ) → slice_index_or cells j None ≡ Some x → x < 4611686018427387904 }
     ensures same { (seat.new.table_id ≡ seat.old.table_id) × (seat.new.id ≡ seat.old.id) × (seat.new.me.1 ≡ seat.old.me.1) }
     ensures published { Published ((script (told words.now.key)).parts t) t seat.old.me.0 seat.new.me.0 }
 {
     for k in 0..count + 1 {
-        publish::<Brand>(words, seat, t, k, part_word(outcome, k));
+        let _ = publish::<Brand>(words, seat, t, k, part_word(outcome, k));
     }
 }
 

@@ -1,4 +1,4 @@
-//! The rule of the table, and what each step tells.
+//! The rule of the table, and what each step says.
 use crate::about::About;
 use atomic_table::{Join, Play, Split, TableRule};
 use board_core::View;
@@ -93,9 +93,9 @@ impl<J: Pair> Play<u8, View> for CountDown<J> {
 pub(crate) struct Publish<J>(PhantomData<J>);
 
 impl<J: Pair> Play<u8, View> for Publish<J> {
-    ghost use Rattle.board_core.specs.Steps.{Puts, publishing};
+    ghost use Rattle.board_core.specs.Steps.{Sets, publishing};
 
-    ghost then = { Puts (publishing J.from J.to) };
+    ghost then = { Sets (publishing J.from J.to) };
 }
 
 pub(crate) struct WriteValue<J>(PhantomData<J>);

@@ -89,16 +89,24 @@ pub fn load_part<J: Found>(
     words.load::<LoadWord<J>>(seat, 38 * x + 5 + 2 * k)
 }
 
-/// Publishes one word of t, as meant.
-pub fn publish<J: Pair>(words: &Words, seat: &mut Seat<u8, View>, t: usize, k: usize, word: u64)
+/// Publishes one word of t, as meant, where nothing was published, and returns the word that it replaced, which is 0.
+pub fn publish<J: Pair>(
+    words: &Words,
+    seat: &mut Seat<u8, View>,
+    t: usize,
+    k: usize,
+    word: u64,
+) -> u64
     requires seat { (seat.old.table_id ≡ words.now.table_id) × IsLive seat.old.me.0 }
     requires place { (t ≡ J.from) × (k ≡ J.to) × (t < length (told words.now.key).txns) × HasRoom (told words.now.key) words.now.table_id.words }
     requires part { (k < (script (told words.now.key)).parts t) × (k < 17) × (word ≡ (script (told words.now.key)).meant t k) }
-    requires held { 0 < times_first t seat.old.me.0.begins }
+    requires held { (0 < times_first t seat.old.me.0.begins) × (times_first t seat.old.me.0.finishes ≡ 0) }
+    requires unset { times_pair t k seat.old.me.0.published ≡ 0 }
     ensures same { (seat.new.table_id ≡ seat.old.table_id) × (seat.new.id ≡ seat.old.id) }
     ensures view { seat.new.me ≡ (publishing t k seat.old.me.0, seat.old.me.1) }
+    ensures empty { result ≡ 0 }
 {
-    words.swap::<Publish<J>>(seat, 38 * t + 5 + 2 * k, word);
+    words.swap::<Publish<J>>(seat, 38 * t + 5 + 2 * k, word)
 }
 
 /// Writes a value that the outcome of t gives, once all words of t are published.

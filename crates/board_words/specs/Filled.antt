@@ -35,7 +35,7 @@ pub record AreEmpty (plan : Plan) (outcomes : List (Option Outcome)) : Type 0 wh
   pub long : length outcomes ≡ length plan.txns
   pub none : (t : ℕ) → slice_index_or outcomes t None ≡ None
 
--- the place of a version word of a known position
+-- the position of a version word of a known position
 abbrev pub IsEarlyVersion : Plan → ℕ → ℕ → Type 0
 IsEarlyVersion plan t j = (is_some (known_at plan t) ≡ true) × (j < length (writes_at plan t))
 

@@ -1,4 +1,4 @@
--- The runs of positions, by place.
+-- The runs of positions, by position.
 use Rattle.std.specs.Prelude.{◌≡◌, ◌+◌, ℕ, List, slice_index_or, slice_set, Option, Some, None}
 use Rattle.board_core.specs.Counts.{Run}
 use Rattle.board_work.specs.declared.plan.Span.{Span}
@@ -8,7 +8,7 @@ abbrev pub run_of : Option Span → Option Run
 run_of (Some s) = Some (s.t, s.worker, s.begin, s.finish)
 run_of None = None
 
--- the run at a place
+-- the run at a position
 abbrev pub run_at : List (Option Span) → ℕ → Option Run
 run_at runs t = run_of (slice_index_or runs t None)
 

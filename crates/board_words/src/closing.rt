@@ -1,4 +1,4 @@
-//! The trace: the runs by place, gathered in order of position without memory.
+//! The trace: the runs by position, gathered in order of position without memory.
 ghost use Rattle.std.specs.Prelude.{◌≡◌, ◌≤◌, ◌<◌, ℕ, length, map, take};
 ghost use Rattle.board_work.specs.Spans.{span_of};
 ghost use Rattle.script_laws.specs.Placed.{placed};

@@ -16,7 +16,7 @@ pub fn own_copy(alloc: Global, own: &[bool]) -> Result<Own, OutOfMemory>
     Ok(copied)
 }
 
-/// So many places without an outcome.
+/// So many positions without an outcome.
 pub fn no_outcomes(alloc: Global, size: usize) -> Result<Known, OutOfMemory>
     ensures { IfOk result (λ known. (length known ≡ size) × ((t : ℕ) → slice_index_or known t None ≡ None)) }
 {

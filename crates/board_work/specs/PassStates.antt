@@ -2,11 +2,17 @@
 use Rattle.std.specs.Prelude.{◌≡◌, ◌≢◌, ◌==◌, ◌↔◌, ℕ, true, ◌+◌, ◌<◌, List, [], ◌∷◌, ◌++◌, Contains, min, take, if◌then◌else◌}
 use Rattle.std.specs.List.{All}
 use Rattle.atomic_table.specs.Seated.{TableId}
+use Rattle.txn_types.specs.declared.txn.Outcome.{Outcome}
 use Rattle.board_defs.specs.Closure.{Plan, is_own, can_run}
 use Rattle.board_defs.specs.Trace.{Span}
 use Rattle.board_core.specs.Counts.{times}
 use Rattle.board_core.specs.declared.take.Take.{Take}
 use Rattle.board_core.specs.declared.take.Take.TheVariants.{Taken, NotReady, Gone}
+
+-- what a taken position came to
+pub record Evaluation : Type 0 where
+  pub position : ℕ
+  pub outcome : Outcome
 
 -- which value a pass came from, and the plan that the value was made of
 pub record Home : Type 0 where
@@ -75,11 +81,11 @@ split_state v = record v { passes = v.passes + 1 }
 abbrev pub loaded_state : ℕ → ℕ → PassState → PassState
 loaded_state t need v = record v { loads = v.loads + 1; last = (t, need) }
 
--- what a take of t answers, and makes of the pass: it loads the need of t once; a need that isn't 0 is never that of a duty
-abbrev pub Took : Take → ℕ → PassState → PassState → Type 0
-Took Taken t v w = w ≡ record (loaded_state t 0 v) { tried = t ∷ v.tried; held = t ∷ v.held }
-Took Gone t v w = w ≡ record (loaded_state t 0 v) { tried = t ∷ v.tried }
-Took (NotReady need) t v w = (need ≢ 0) × (times t v.duties ≡ 0) × (w ≡ loaded_state t need v)
+-- what a take of t answers, and makes of the pass: what it hands out is t; it loads the need of t once; a need that isn't 0 is never that of a duty
+abbrev pub Took : {T : Type 0} → (T → ℕ) → Take T → ℕ → PassState → PassState → Type 0
+Took position (Taken x) t v w = (position x ≡ t) × (w ≡ record (loaded_state t 0 v) { tried = t ∷ v.tried; held = t ∷ v.held })
+Took position Gone t v w = w ≡ record (loaded_state t 0 v) { tried = t ∷ v.tried }
+Took position (NotReady need) t v w = (need ≢ 0) × (times t v.duties ≡ 0) × (w ≡ loaded_state t need v)
 
 abbrev pub without : ℕ → List ℕ → List ℕ
 without t [] = []

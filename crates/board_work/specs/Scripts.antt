@@ -57,7 +57,7 @@ abbrev pub later : Option ℕ → Option ℕ → Option ℕ
 later (Some x) c = Some x
 later None c = c
 
--- what entries give a record: the last one at its places
+-- what entries give a record: the last one at its positions
 abbrev pub given : List ℕ → List (Option ℕ) → ℕ → Option ℕ
 given (w ∷ ws) (c ∷ cells) r = later (given ws cells r) (if r == w then c else None)
 given _ _ r = None

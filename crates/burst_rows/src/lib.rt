@@ -1,4 +1,4 @@
-//! A table of runs on one thread, and of what their gate is told.
+//! A table of runs on one thread, and of what their gate is called for.
 #![tactic(auto)]
 
 #[cfg(test)]

@@ -1,4 +1,4 @@
-//! What a burst comes to, and what its gate is told, with ample memory.
+//! What a burst comes to, and what its gate is called for, with ample memory.
 
 mod calls;
 mod gates;

@@ -2,6 +2,7 @@
 pub mod AgreedLemmas
 pub mod LawfulBlocks
 pub mod WorldTextLemmas
+pub mod EvidenceLemmas
 pub mod WorldLemmas
 pub mod TextLemmas
 pub mod SoakWorlds

@@ -30,6 +30,7 @@ use Rattle.world_laws.specs.Deliveries.{AreBursts, AreDeliveries}
 use Rattle.world_laws.specs.Worlds.{CanTake, HasBursts, KeptWorld, setting_with}
 use Rattle.input_doc.specs.Inputs.{Input}
 use Rattle.input_doc.specs.LawfulInputs.{IsLawfulInput}
+use Rattle.command_text.specs.Evident.{AreEvidenceLines, IsEvidenceText, IsShownOf}
 use Rattle.command_text.specs.Traced.{IsTraceText, trace_lines}
 use Rattle.command_text.specs.Commands.{IsRunText}
 use Rattle.command_text.specs.AgreedBlocks.{AreAgreedBlocks}
@@ -120,18 +121,39 @@ trace_is workers true input blocks pieces k agreed admitted has =
       printed = refl;
     }
 
--- the text of a world of the input's events, with its trace
-pub run_text_of : (workers : ℕ) (traced : Bool) (input : Input) (items : List Item) (blocks : List Block) (pieces : List (Option Piece)) (rejected : List Rejected) (lines : List ℕ) (w : World) (k : KeptWorld) →
+-- what evidence prints of a world of the input's events
+evidence_is : (evident : Bool) (input : Input) (blocks : List Block) (pieces : List (Option Piece)) (w : World) (shown : List ℕ) →
+    AreAgreedBlocks input.table input.limits input.items blocks → pieces ≡ pieces_of input.table input.items →
+    IsWorld (setting_with input.table (state_of input.genesis) blocks pieces input.faulty) input.schedule w →
+    IsShownOf evident (setting_with input.table (state_of input.genesis) blocks pieces input.faulty) w shown →
+    IsEvidenceText evident input shown
+evidence_is false input blocks pieces w shown agreed admitted led are = are
+evidence_is true input blocks pieces w shown agreed admitted led are =
+    let same = setting_is input blocks pieces agreed admitted in record {
+      setting = setting_over input agreed.bodies;
+      is = setting_over_is input agreed.bodies agreed.agreed;
+      world = w;
+      led = subst (λ s. IsWorld s input.schedule w) same led;
+      lines_are = subst (λ s. AreEvidenceLines s w shown) same are;
+    }
+
+-- the text of a world of the input's events, with its evidence and its trace
+pub run_text_of : (workers : ℕ) (traced evident : Bool) (input : Input) (items : List Item) (blocks : List Block) (pieces : List (Option Piece)) (rejected : List Rejected) (lines : List ℕ) (w : World) (shown : List ℕ) (k : KeptWorld) →
     table_of k.table ≡ input.table → items ≡ input.items → AreAgreedBlocks input.table input.limits items blocks → pieces ≡ pieces_of input.table items → rejected ≡ rejected_from input.table 0 items →
     IsWorld (setting_with input.table (state_of input.genesis) blocks pieces input.faulty) input.schedule w →
     HasBursts workers k (setting_with input.table (state_of input.genesis) blocks pieces input.faulty) input.schedule →
-    lines ≡ text (setting_with input.table (state_of input.genesis) blocks pieces input.faulty) rejected w ++ trace_lines traced (table_of k.table) k.bursts →
-    IsRunText workers traced input lines
-run_text_of workers traced input items blocks pieces rejected lines w k table_is same agreed admitted told led has printed =
-    let s = setting_with input.table (state_of input.genesis) blocks pieces input.faulty in record {
+    IsShownOf evident (setting_with input.table (state_of input.genesis) blocks pieces input.faulty) w shown →
+    lines ≡ text (setting_with input.table (state_of input.genesis) blocks pieces input.faulty) rejected w ++ shown ++ trace_lines traced (table_of k.table) k.bursts →
+    IsRunText workers traced evident input lines
+run_text_of workers traced evident input items blocks pieces rejected lines w shown k table_is same agreed admitted told led has seen printed =
+    let s = setting_with input.table (state_of input.genesis) blocks pieces input.faulty in
+    let ours = subst (λ (xs : List Item). AreAgreedBlocks input.table input.limits xs blocks) same agreed in
+    let carried = admitted ∙ ap (pieces_of input.table) same in record {
       text = text s rejected w;
+      evidence = shown;
       trace = trace_lines traced input.table k.bursts;
-      whole = printed ∙ ap (λ t. text s rejected w ++ trace_lines traced t k.bursts) table_is;
+      whole = printed ∙ ap (λ t. text s rejected w ++ shown ++ trace_lines traced t k.bursts) table_is;
       world = run_text_is input items blocks pieces rejected (text s rejected w) w same agreed admitted told led refl;
-      bursts = trace_is workers traced input blocks pieces k (subst (λ (xs : List Item). AreAgreedBlocks input.table input.limits xs blocks) same agreed) (admitted ∙ ap (pieces_of input.table) same) has;
+      seen = evidence_is evident input blocks pieces w shown ours carried led seen;
+      bursts = trace_is workers traced input blocks pieces k ours carried has;
     }

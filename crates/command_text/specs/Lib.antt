@@ -9,11 +9,15 @@ pub use Rattle.txn_core.specs.States
 pub use Rattle.peer_laws.specs.Runs
 pub use Rattle.peer_turns.specs.Traces
 pub use Rattle.world_laws.specs.Deliveries
+pub use Rattle.evidence_marks.specs.Evidence
 pub use Rattle.report_text.specs.BurstText
+pub use Rattle.report_text.specs.EvidenceText
 pub use Rattle.soak_text.specs.Summary
 pub use Rattle.input_doc.specs.Inputs
 pub use Rattle.input_doc.specs.LawfulInputs
 pub use Rattle.input_doc.specs.Held
 pub mod AgreedBlocks
 pub mod Traced
+pub mod Marked
+pub mod Evident
 pub mod Commands

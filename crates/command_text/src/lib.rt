@@ -2,6 +2,7 @@
 #![tactic(auto)]
 
 mod agreed;
+mod evidence;
 mod graphs;
 mod soak;
 mod text;

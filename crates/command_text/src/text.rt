@@ -1,9 +1,10 @@
 //! The printed text of a document, and the world that it is of.
 
-ghost use Rattle.std.specs.Prelude.{◌≡◌, ◌≤◌, IfOk};
+ghost use Rattle.std.specs.Prelude.{◌≡◌, ◌≤◌, length, IfOk};
 ghost use Rattle.std.specs.List.{All};
-ghost use Rattle.oxii_defs.specs.Lawful.{IsLawfulBlock};
+ghost use Rattle.oxii_defs.specs.Lawful.{IsLawfulTable, IsLawfulBlock};
 ghost use Rattle.node_defs.specs.Admission.{pieces_of};
+ghost use Rattle.node_defs.specs.LawfulItems.{IsLawfulItem, AreLawfulLimits};
 ghost use Rattle.txn_core.specs.MeantTable.{table_of};
 ghost use Rattle.txn_core.specs.States.{state_of};
 ghost use Rattle.world_laws.specs.Worlds.{HasBursts, IsWorldOf, setting_with};
@@ -59,22 +60,26 @@ pub fn run_text<R: Threads + Sync, G: Gate>(
     input: &Input,
     workers: u8,
     trace: bool,
+    evidence: bool,
     gate: &G,
 ) -> Result<Text, OutOfMemory>
     requires lawful { IsLawfulInput (input_of input.now) }
     requires workers { (1 ≤ workers) × (workers ≤ 16) }
-    ensures text { IfOk result (IsRunText workers trace (input_of input.now)) }
+    ensures text { IfOk result (IsRunText workers trace evidence (input_of input.now)) }
 {
     let agreed = agree(alloc, &input.table, input.items.as_slice(), &input.limits)?;
     let world = play(rt, alloc, input, &agreed, workers, gate)?;
     let count = agreed.blocks.len() as u64;
-    let text = report(alloc, &world, &agreed.rejected, count, trace)?;
+    let text = report(alloc, &world, &agreed.rejected, count, evidence, trace)?;
     Ok(text)
 }
 
 /// The text of the command `graph`: the rejected requests, and the agreed blocks with what each transaction depends on.
 pub fn graph_report(alloc: Global, input: &Input) -> Result<Text, OutOfMemory>
-    requires { IsLawfulInput (input_of input.now) }
+    requires table { IsLawfulTable (table_of input.now.table) }
+    requires count { length input.now.items ≤ 8192 }
+    requires items { All (IsLawfulItem (table_of input.now.table)) input.now.items }
+    requires limits { AreLawfulLimits input.now.limits }
     ensures { IfOk result (IsGraphText (input_of input.now)) }
 {
     let table = &input.table;

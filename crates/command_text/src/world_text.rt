@@ -1,6 +1,6 @@
 //! The printed text of a world.
 
-ghost use Rattle.std.specs.Prelude.{◌≡◌, ◌<◌, ◌++◌, List, [], length, OnOk, IfOk, IfSome, if◌then◌else◌};
+ghost use Rattle.std.specs.Prelude.{◌≡◌, ◌<◌, ◌++◌, ℕ, List, [], length, OnOk, IfOk, IfSome, if◌then◌else◌};
 ghost use Rattle.std.specs.List.{flat_map};
 ghost use Rattle.txn_types.specs.declared.event.Event as event;
 ghost use Rattle.txn_types.specs.declared.message.Node.TheVariants as node;
@@ -15,8 +15,10 @@ ghost use Rattle.txn_core.specs.MeantTable.{table_of};
 ghost use Rattle.peer_turns.specs.Relation.{StandsFor};
 ghost use Rattle.world_laws.specs.Shown.{IsPeerFor, IsShown};
 ghost use Rattle.world_laws.specs.Worlds.{IsWorldOf, peer_in};
+ghost use Rattle.command_text.specs.Evident.{IsShownOf};
 ghost use Rattle.command_text.specs.Traced.{bursts_lines, trace_lines};
 
+use crate::evidence::push_evidence;
 use peer_core::Peer;
 use report_text::{burst_part, head, peer_part, tail};
 use schedule_run::{Burst, World};
@@ -116,20 +118,22 @@ fn push_trace(
     }
 }
 
-/// The printed text of a world: the rejected requests, how many blocks are agreed, the ledger and state of each peer that isn't faulty, and how many messages and idle deliveries there were; and behind that, where it is traced, what ran.
+/// The printed text of a world: the rejected requests, how many blocks are agreed, the ledger and state of each peer that isn't faulty, and how many messages and idle deliveries there were; after that, where it is asked for, who was seen to say two different things; and after that, where it is traced, what ran.
 pub fn report(
     alloc: Global,
     world: &World<'_>,
     rejected: &Rejects,
     blocks: u64,
+    evidence: bool,
     trace: bool,
 ) -> Result<Text, OutOfMemory>
-    ensures { IfOk result (λ lines. (genesis : State) (s : Setting) (events : List event.Event) → length s.chain ≡ blocks → IsWorldOf world.now genesis s events → (v : meant.World) × IsWorld s events v × (lines ≡ printed.text s rejected.now v ++ trace_lines trace (table_of world.now.table) world.now.bursts)) }
+    ensures { IfOk result (λ lines. (genesis : State) (s : Setting) (events : List event.Event) → length s.chain ≡ blocks → IsWorldOf world.now genesis s events → (v : meant.World) × (shown : List ℕ) × IsWorld s events v × IsShownOf evidence s v shown × (lines ≡ printed.text s rejected.now v ++ shown ++ trace_lines trace (table_of world.now.table) world.now.bursts)) }
 {
     let mut text = Text::new(alloc);
     head(alloc, &mut text, rejected, blocks)?;
     push_parts(alloc, &mut text, world)?;
     tail(alloc, &mut text, world.messages(), world.idle())?;
+    push_evidence(alloc, &mut text, world, evidence)?;
     push_trace(alloc, &mut text, world, trace)?;
     Ok(text)
 }

@@ -24,12 +24,12 @@ added_at Cut = []
 abbrev pub added : List Step → List Vote
 added steps = flat_map added_at steps
 
--- a cut stands behind the step
+-- a cut is after the step
 abbrev pub cuts : Step → Bool
 cuts (Hold n vote follows) = follows
 cuts Cut = true
 
--- the COMMITs and what is held are the added votes, and behind the last cut is what is held
+-- the COMMITs and what is held are the added votes, and after the last cut is what is held
 pub record CutTheVotes : Type 0 where
   pub whole : (held : Commit) (steps : List Step) → flat_map (λ c. c.votes) (handed held steps) ++ (left held steps).votes ≡ held.votes ++ added steps
   pub open_part : (held : Commit) (before : List Step) (s : Step) (after : List Step) → cuts s ≡ true → list_any cuts after ≡ false → (left held (before ++ s ∷ after)).votes ≡ added after

@@ -12,7 +12,7 @@ pub data Step : Type 0 where
 abbrev pub IsFor : Commit → ℕ → Type 0
 IsFor held n = 0 < length held.votes → held.n ≡ n
 
--- one more vote, behind the others
+-- one more vote, after the others
 abbrev pub with_vote : Commit → ℕ → Vote → Commit
 with_vote held n vote = record { n = n; votes = held.votes ++ vote ∷ [] }
 
@@ -25,7 +25,7 @@ abbrev pub handed_at : Commit → Step → Option Commit
 handed_at held (Hold n vote follows) = if follows then Some (with_vote held n vote) else None
 handed_at held Cut = if length held.votes == 0 then None else Some held
 
--- what is held behind a step
+-- what is held after a step
 abbrev pub held_behind : Commit → Step → Commit
 held_behind held (Hold n vote follows) = if follows then emptied (with_vote held n vote) else with_vote held n vote
 held_behind held Cut = emptied held

@@ -17,7 +17,7 @@ pub data Pending : Type 0 where
   group : ℕ → Pending
   part : Part → Pending
 
--- an operand is wanted, or there is one
+-- an operand is expected, or there is one
 pub data Partial : Type 0 where
   want : List Pending → Partial
   have : Tree → List Pending → Partial
@@ -38,13 +38,13 @@ folded l e [] = have e []
 folded l e (group at ∷ st) = have e (group at ∷ st)
 folded l e (part d ∷ st) = if nat_le l (level_of d) then folded l (filled d e) st else have e (part d ∷ st)
 
--- what is on top lets an operand of this level stand there
+-- what is on top lets an operand of this level be there
 abbrev pub fits : ℕ → List Pending → Bool
 fits l [] = true
 fits l (group at ∷ st) = true
 fits l (part d ∷ st) = nat_lt (level_of d) l
 
--- a part waits for its operand, where it can stand
+-- a part waits for its operand, where it can be
 abbrev pub pushed : Part → List Pending → Option Partial
 pushed d st = if fits (level_of d) st then Some (want (part d ∷ st)) else None
 
@@ -60,7 +60,7 @@ on_close (have e []) = None
 on_close (have e (group at ∷ st)) = Some (have (begun_at at e) st)
 on_close (have e (part d ∷ st)) = None
 
--- a token where an operand is wanted
+-- a token where an operand is expected
 abbrev pub on_want : ℕ → Token → List Pending → Option Partial
 on_want at (Number n) st = Some (have (number at n) st)
 on_want at (Named x long) st = Some (have (name at at x) st)
@@ -74,7 +74,7 @@ on_have (Infix op) e st = on_infix op (folded (left_level op) e st)
 on_have Close e st = on_close (folded 0 e st)
 on_have _ e st = None
 
--- the next token, or none where it can't stand there
+-- the next token, or none where it can't be there
 unfoldable pub taken : Partial → ℕ → Token → Option Partial
 taken (want st) at t = on_want at t st
 taken (have e st) at t = on_have t e st

@@ -14,15 +14,15 @@ use Rattle.contract_grammar.specs.declared.tree.Param.{Param}
 use Rattle.contract_grammar.specs.declared.tree.Head.{Head}
 use Rattle.contract_grammar.specs.Tree.{Tree, number, name, negation, binary, first, begun_at, Statement, define, assign, demand, choose, again, Statements, nil, then_one, Op}
 
--- a token in its place
+-- a token at its position
 abbrev pub tok : Extent → Token → Placed
 tok w t = record { span = w; token = t }
 
--- a word or a sign of statements and operations in its place
+-- a word or a sign of statements and operations at its position
 abbrev pub fixed : Extent → Mark → Placed
 fixed w m = tok w (Fixed m)
 
--- how tightly an operator binds: `or` 0, `and` 1, comparisons 3, sums 4, products 5; `not` has 2, and what stands alone 6
+-- how tightly an operator binds: `or` 0, `and` 1, comparisons 3, sums 4, products 5; `not` has 2, and what is alone 6
 abbrev pub level : Operator → ℕ
 level Or = 0
 level And = 1
@@ -38,7 +38,7 @@ level Times = 5
 level Divide = 5
 level Remainder = 5
 
--- a chain groups from the left: what stands left of its last operator is a chain of the same operators; comparisons don't chain
+-- a chain groups from the left: what is left of its last operator is a chain of the same operators; comparisons don't chain
 abbrev pub left_level : Operator → ℕ
 left_level op = if level op == 3 then 4 else level op
 
@@ -95,7 +95,7 @@ pub data SpellsParams : List Placed → List Param → Type 0 where
 abbrev pub head : ℕ → List ℕ → List Param → Head
 head at x ps = record { at = at; name = x; params = ps }
 
--- what stands before an operation's block: "op" name "(" [ param { "," param } ] ")"
+-- what is before an operation's block: "op" name "(" [ param { "," param } ] ")"
 pub data SpellsHead : List Placed → Head → Type 0 where
   without : {w v u z : Extent} {x : List ℕ} {long : Bool} → SpellsHead (fixed w WordOp ∷ tok v (Named x long) ∷ tok u Open ∷ tok z Close ∷ []) (head v.start x [])
   with : {w v u : Extent} {x : List ℕ} {long : Bool} {xs : List Placed} {ps : List Param} (z : Extent) → SpellsParams xs ps
@@ -105,7 +105,7 @@ pub data SpellsHead : List Placed → Head → Type 0 where
 pub data SpellsOp : List Placed → Op → Type 0 where
   of_op : {hs bs : List Placed} {h : Head} {b : Statements} → SpellsHead hs h → SpellsBlock bs b → SpellsOp (hs ++ bs) (record { head = h; body = b })
 
--- operations, one behind the other
+-- operations, one after the other
 pub data SpellsOps : List Placed → List Op → Type 0 where
   no_ops : SpellsOps [] []
   more_ops : {xs ys : List Placed} {os : List Op} {o : Op} → SpellsOps xs os → SpellsOp ys o → SpellsOps (xs ++ ys) (os ++ o ∷ [])

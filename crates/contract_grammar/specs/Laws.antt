@@ -12,7 +12,7 @@ use Rattle.contract_grammar.specs.Grammar.{fixed, SpellsContract}
 use Rattle.contract_grammar.specs.Limits.{tally}
 use Rattle.contract_grammar.specs.Reading.{Reading, reading, ReadingMeans}
 
--- the tokens of a text are those that lie behind one another in it
+-- the tokens of a text are those that follow one another in it
 abbrev pub TokensAreMeant : Type 0
 TokensAreMeant = (text : List ℕ) (ts : List Placed) → (tokens text ≡ ts) ↔ AreTokens 0 text ts
 
@@ -20,7 +20,7 @@ TokensAreMeant = (text : List ℕ) (ts : List Placed) → (tokens text ≡ ts) �
 abbrev pub SentencesHaveOneTree : Type 0
 SentencesHaveOneTree = (ts : List Placed) (os os' : List Op) → SpellsContract ts os → SpellsContract ts os' → os ≡ os'
 
--- the reading of a text is what the grammar, the limits and the places of faults say
+-- the reading of a text is what the grammar, the limits and the positions of faults say
 abbrev pub ReadingsAreMeant : Type 0
 ReadingsAreMeant = (text : List ℕ) → ReadingMeans (tokens text) (length text) (reading text)
 

@@ -1,4 +1,4 @@
--- The tokens of a text: each as long as it can be, in its place.
+-- The tokens of a text: each as long as it can be, at its position.
 use Rattle.std.specs.Prelude.{ℕ, zero, suc, ◌+◌, ◌-◌, ◌*◌, ◌==◌, ◌&&◌, ◌||◌, Bool, false, List, [], ◌∷◌, codes, drop, length, min, nat_le, nat_lt, take, take_while, if◌then◌else◌}
 use Rattle.std.specs.Str.{bytes_eq}
 use Rattle.txn_types.specs.Values.{max_value}
@@ -24,7 +24,7 @@ is_digit b = nat_le 48 b && nat_le b 57
 abbrev pub is_name_byte : ℕ → Bool
 is_name_byte b = is_letter b || (is_digit b || (b == 95))
 
--- the whole number that digits stand for, behind the number n of those before them
+-- the whole number that digits stand for, after the number n of those before them
 abbrev pub decimal : ℕ → List ℕ → ℕ
 decimal n [] = n
 decimal n (d ∷ ds) = decimal (10 * n + (d - 48)) ds
@@ -46,7 +46,7 @@ number_of digits behind = if is_padded digits || begins is_name_byte behind then
 abbrev pub named : List ℕ → Token
 named bytes = Named (take 32 bytes) (nat_lt 32 (length bytes))
 
--- a word that stands in an expression, or a name
+-- a word that is in an expression, or a name
 unfoldable pub word_in_expression : List ℕ → Token
 word_in_expression bytes = if bytes_eq bytes (codes "and") then Infix And else (if bytes_eq bytes (codes "or") then Infix Or else (if bytes_eq bytes (codes "not") then Not else named bytes))
 
@@ -55,7 +55,7 @@ unfoldable pub word_in_block : List ℕ → Token
 word_in_block bytes = if bytes_eq bytes (codes "let") then Fixed WordLet else (if bytes_eq bytes (codes "require") then Fixed WordRequire else (if bytes_eq bytes (codes "if") then Fixed WordIf
     else (if bytes_eq bytes (codes "else") then Fixed WordElse else (if bytes_eq bytes (codes "repeat") then Fixed WordRepeat else word_in_expression bytes))))
 
--- a word that stands before an operation's block, or another one, or a name
+-- a word that is before an operation's block, or another one, or a name
 unfoldable pub word_of : List ℕ → Token
 word_of bytes = if bytes_eq bytes (codes "op") then Fixed WordOp else (if bytes_eq bytes (codes "record") then Fixed WordRecord else (if bytes_eq bytes (codes "number") then Fixed WordNumber else word_in_block bytes))
 
@@ -65,7 +65,7 @@ single b = if b == 40 then Open else (if b == 41 then Close else (if b == 123 th
     else (if b == 58 then Fixed Colon else (if b == 44 then Fixed Comma else (if b == 59 then Fixed Semicolon
     else (if b == 43 then Infix Plus else (if b == 45 then Infix Minus else (if b == 42 then Infix Times else (if b == 47 then Infix Divide else (if b == 37 then Infix Remainder else Bad)))))))))))
 
--- one token with a `=` behind its first byte, another one without
+-- one token with a `=` after its first byte, another one without
 abbrev pub with_equals : List ℕ → Token → Token → Token × ℕ
 with_equals behind with_it alone = if begins (λ b. b == 61) behind then (with_it, 2) else (alone, 1)
 
@@ -88,7 +88,7 @@ token_at [] = (Bad, 1)
 token_at (b ∷ behind) = if is_letter b then (word_of (name_at (b ∷ behind)), length (name_at (b ∷ behind)))
     else (if is_digit b then number_of (digits_at (b ∷ behind)) (drop (length (digits_at (b ∷ behind))) (b ∷ behind)) else sign_at b behind)
 
--- a token of this length in its place
+-- a token of this length at its position
 abbrev pub placed : ℕ → Token × ℕ → Placed
 placed at (token, len) = record { span = record { start = at; end = at + len }; token = token }
 

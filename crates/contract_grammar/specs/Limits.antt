@@ -9,7 +9,7 @@ use Rattle.contract_grammar.specs.declared.token.Placed.{Placed}
 use Rattle.contract_grammar.specs.Tree.{Tree, number, name, negation, binary}
 use Rattle.contract_grammar.specs.Grammar.{level, Spells}
 
--- what stands directly before, where a limit depends on it: `repeat`, the count of a `repeat`, `let`, `,` or another token
+-- what is directly before, where a limit depends on it: `repeat`, the count of a `repeat`, `let`, `,` or another token
 pub data Previous : Type 0 where
   plain : Previous
   repeat_word : Previous
@@ -53,7 +53,7 @@ parentheses_after n Open = n + 1
 parentheses_after n Close = n - 1
 parentheses_after n _ = n
 
--- a number behind `repeat` is its count
+-- a number after `repeat` is its count
 abbrev pub previous_after : Previous → Token → Previous
 previous_after b (Fixed WordRepeat) = repeat_word
 previous_after b (Fixed WordLet) = let_word
@@ -66,7 +66,7 @@ abbrev pub factor : Previous → ℕ
 factor (count n) = n
 factor _ = 1
 
--- the product of the counts around this place
+-- the product of the counts around this position
 abbrev pub product_in : List Scope → ℕ
 product_in [] = 1
 product_in (s ∷ scopes) = s.product
@@ -144,16 +144,16 @@ abbrev pub is_further_op : ℕ → Token → Bool
 is_further_op ops (Fixed WordOp) = nat_le 16 ops
 is_further_op ops _ = false
 
--- a token that ends more than 4,096 bytes behind the first byte of its operation
+-- a token that ends more than 4,096 bytes after the first byte of its operation
 abbrev pub is_far : ℕ → Placed → Bool
 is_far begun k = nat_lt (begun_after begun k.span.start k.token + 4096) k.span.end
 
--- the token passes one of these limits, behind tokens over which this was counted
+-- the token passes one of these limits, after tokens over which this was counted
 unfoldable pub passes : Tally → Placed → Bool
 passes c k = is_large k.token || (is_long_name k.token || (is_bad_count c.previous c.scopes k.token || (is_deep c.parentheses c.scopes k.token
     || (is_further_name c.previous c.commas c.scopes k.token || (is_further_op c.ops k.token || is_far c.begun k)))))
 
--- what binds an operand of this level no tighter, and stands before a whole one: a parenthesis, a looser operator, what an expression follows
+-- what binds an operand of this level no tighter, and is before a whole one: a parenthesis, a looser operator, what an expression follows
 pub data Looser : ℕ → Token → Type 0 where
   behind_open : {l : ℕ} → Looser l Open
   behind_infix : {l : ℕ} {op : Operator} → level op < l → Looser l (Infix op)
@@ -191,7 +191,7 @@ pub record IsChainEnd (p : List Placed) (k : Placed) : Type 0 where
   pub stands : LastOperand p (level operator) operand
   pub long : 32 ≤ chain_length (level operator) operand
 
--- the token passes a limit, behind these tokens
+-- the token passes a limit, after these tokens
 abbrev pub IsLimit : List Placed → Placed → Type 0
 IsLimit p k = (passes (tally p) k ≡ true) ⊎ IsChainEnd p k
 

@@ -93,7 +93,7 @@ abbrev pub on_open : ℕ → List ℕ → Token → List Unclosed → List Op �
 on_open a x Open bs os = some_at (at_first (head a x [])) bs os
 on_open a x _ bs os = None
 
--- the first parameter's name, or the parenthesis behind none
+-- the first parameter's name, or the parenthesis after none
 abbrev pub on_first : Head → ℕ → Token → List Unclosed → List Op → Option At
 on_first h p (Named x long) bs os = some_at (at_colon h p x) bs os
 on_first h p Close bs os = some_at (at_block (whole h)) bs os
@@ -104,7 +104,7 @@ abbrev pub on_param : Head → ℕ → Token → List Unclosed → List Op → O
 on_param h p (Named x long) bs os = some_at (at_colon h p x) bs os
 on_param h p _ bs os = None
 
--- the colon behind a parameter's name
+-- the colon after a parameter's name
 abbrev pub on_colon : Head → ℕ → List ℕ → Token → List Unclosed → List Op → Option At
 on_colon h a x (Fixed Colon) bs os = some_at (at_kind h a x) bs os
 on_colon h a x _ bs os = None
@@ -115,7 +115,7 @@ on_kind h a x (Fixed WordRecord) bs os = some_at (at_more (with_param h (paramet
 on_kind h a x (Fixed WordNumber) bs os = some_at (at_more (with_param h (parameter a x kind.Number))) bs os
 on_kind h a x _ bs os = None
 
--- a comma, or the parenthesis behind the parameters
+-- a comma, or the parenthesis after the parameters
 abbrev pub on_more : Head → Token → List Unclosed → List Op → Option At
 on_more h (Fixed Comma) bs os = some_at (at_param h) bs os
 on_more h Close bs os = some_at (at_block (whole h)) bs os
@@ -141,7 +141,7 @@ abbrev pub on_let : ℕ → Token → List Unclosed → List Op → Option At
 on_let p (Named x long) bs os = some_at (at_equals (for_let p x)) bs os
 on_let p _ bs os = None
 
--- the `=` behind a name
+-- the `=` after a name
 abbrev pub on_equals : Use → Token → List Unclosed → List Op → Option At
 on_equals u (Fixed Becomes) bs os = some_at (in_expr u (want [])) bs os
 on_equals u _ bs os = None
@@ -159,19 +159,19 @@ on_semicolon (for_assign a x) (Some e) bs os = some_at at_stmt (with_stmt (assig
 on_semicolon for_require (Some e) bs os = some_at at_stmt (with_stmt (demand e) bs) os
 on_semicolon for_if (Some e) bs os = None
 
--- the brace behind the expression of an `if`
+-- the brace after the expression of an `if`
 abbrev pub on_brace : Use → Option Tree → List Unclosed → List Op → Option At
 on_brace u None bs os = None
 on_brace for_if (Some e) bs os = some_at at_stmt (unclosed (first_block e) nil ∷ bs) os
 on_brace u (Some e) bs os = None
 
--- a token where an expression stands
+-- a token where an expression is
 abbrev pub on_expr : Use → Partial → ℕ → Token → List Unclosed → List Op → Option At
 on_expr u s p (Fixed Semicolon) bs os = on_semicolon u (ended s) bs os
 on_expr u s p (Fixed OpenBlock) bs os = on_brace u (ended s) bs os
 on_expr u s p t bs os = option_map (λ z. at (in_expr u z) bs os) (taken s p t)
 
--- `else`, or what comes behind an `if` with no second block
+-- `else`, or what comes after an `if` with no second block
 abbrev pub on_else : Tree → Statements → ℕ → Token → List Unclosed → List Op → Option At
 on_else e b p (Fixed WordElse) bs os = some_at (at_block (second_block e b)) bs os
 on_else e b p t bs os = on_stmt p t (with_stmt (choose e b nil) bs) os
@@ -194,7 +194,7 @@ on_mode (in_expr u s) p t bs os = on_expr u s p t bs os
 on_mode at_count p t bs os = on_count t bs os
 on_mode (at_else e b) p t bs os = on_else e b p t bs os
 
--- the next token, or none where it can't stand there
+-- the next token, or none where it can't be there
 unfoldable pub advance : At → Placed → Option At
 advance z k = on_mode z.mode k.span.start k.token z.blocks z.done
 
@@ -212,7 +212,7 @@ abbrev pub some_ops : List Op → Option (List Op)
 some_ops [] = None
 some_ops (o ∷ os) = Some (o ∷ os)
 
--- a contract can end behind an operation
+-- a contract can end after an operation
 abbrev pub finished : Mode → List Op → Option (List Op)
 finished at_op os = some_ops os
 finished _ os = None

@@ -36,7 +36,7 @@ first (name at own x) = at
 first (negation at e) = at
 first (binary at op a b) = at
 
--- the same expression behind a parenthesis: a name keeps its own byte
+-- the same expression after a parenthesis: a name keeps its own byte
 abbrev pub begun_at : ℕ → Tree → Tree
 begun_at p (number at n) = number p n
 begun_at p (name at own x) = name p own x

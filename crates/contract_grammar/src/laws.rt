@@ -2,7 +2,7 @@
 
 ghost use Rattle.contract_grammar.specs.Laws.{TokensAreMeant, SentencesHaveOneTree, ReadingsAreMeant, ReadingsAreDetermined, TalliesCount};
 
-/// The tokens of a text lie behind one another in it, with spaces between them, and each is as long as it can be.
+/// The tokens of a text follow one another in it, with spaces between them, and each is as long as it can be.
 pub fn tokens_are_meant()
     ensures law { TokensAreMeant }
 {}
@@ -12,7 +12,7 @@ pub fn sentences_have_one_tree()
     ensures law { SentencesHaveOneTree }
 {}
 
-/// The reading of a text is what the grammar, the limits and the places of faults say.
+/// The reading of a text is what the grammar, the limits and the positions of faults say.
 pub fn readings_are_meant()
     ensures law { ReadingsAreMeant }
 {}

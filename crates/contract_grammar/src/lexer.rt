@@ -64,7 +64,7 @@ fn begins_name_byte(bytes: &[u8]) -> bool
     }
 }
 
-/// The number that digits make, with its length, before the bytes behind them.
+/// The number that digits make, with its length, before the bytes after them.
 #[tactic(auto, unfolding(crate::specs::Lexer::number_of))]
 fn number_of(digits: &[u8], behind: &[u8]) -> (Token, usize)
     requires { 0 < length digits.now }
@@ -91,7 +91,7 @@ fn named(bytes: &[u8]) -> Token
     }
 }
 
-/// A word that stands in an expression, or a name.
+/// A word that is in an expression, or a name.
 #[tactic(auto, unfolding(crate::specs::Lexer::word_in_expression))]
 fn word_in_expression(bytes: &[u8]) -> Token
     requires first { BeginsLower bytes.now }
@@ -131,7 +131,7 @@ fn word_in_block(bytes: &[u8]) -> Token
     }
 }
 
-/// A word that stands before an operation's block, or another one, or a name.
+/// A word that is before an operation's block, or another one, or a name.
 #[tactic(auto, unfolding(crate::specs::Lexer::word_of))]
 fn word_of(bytes: &[u8]) -> Token
     requires first { BeginsLower bytes.now }
@@ -171,7 +171,7 @@ fn single(b: u8) -> Token
     }
 }
 
-/// One token with a `=` behind its first byte, another one without.
+/// One token with a `=` after its first byte, another one without.
 fn with_equals(behind: &[u8], with_it: Token, alone: Token) -> (Token, usize)
     ensures value { result ≡ with_equals behind.now with_it alone }
     ensures some { 0 < result.1 }
@@ -211,7 +211,7 @@ fn sign_at(b: u8, behind: &[u8]) -> (Token, usize)
     }
 }
 
-/// How many name bytes stand at the front.
+/// How many name bytes are at the front.
 fn name_len(bytes: &[u8]) -> usize
     ensures value { result ≡ length (name_at bytes.now) }
     ensures bound { result ≤ length bytes.now }
@@ -227,7 +227,7 @@ fn name_at(bytes: &[u8]) -> &[u8]
     &bytes[..name_len(bytes)]
 }
 
-/// How many digits stand at the front.
+/// How many digits are at the front.
 fn digits_len(bytes: &[u8]) -> usize
     requires { IsTrue (begins is_digit bytes.now) }
     ensures value { result ≡ length (digits_at bytes.now) }

@@ -1,8 +1,8 @@
-//! The tokens of the contract language, in their places.
+//! The tokens of the contract language, at their positions.
 
 use txn_types::Name;
 
-/// What stands between two operands.
+/// What is between two operands.
 #[derive(Clone, Copy, Debug, PartialEq, Eq)]
 pub enum Operator {
     Or,
@@ -55,14 +55,14 @@ pub enum Token {
     Bad,
 }
 
-/// Where a token stands: its first byte, and the byte behind it, from 0.
+/// Where a token is: its first byte, and the byte after it, from 0.
 #[derive(Clone, Copy, Debug, PartialEq, Eq)]
 pub struct Extent {
     pub start: u32,
     pub end: u32,
 }
 
-/// A token in its place.
+/// A token at its position.
 #[derive(Drop)]
 pub struct Placed {
     pub span: Extent,

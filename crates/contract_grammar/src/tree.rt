@@ -12,7 +12,7 @@ pub enum Expr {
     Binary(u32, Operator, Box<Expr>, Box<Expr>),
 }
 
-/// A statement; a name stands behind the byte where it begins.
+/// A statement; a name comes after the byte where it begins.
 #[cycle(statements)]
 #[derive(Drop)]
 pub enum Stmt {
@@ -49,7 +49,7 @@ pub struct Param {
 /// The parameters of an operation, in order.
 pub type Params = GrowingList<Param>;
 
-/// What stands before an operation's block, with the byte where its name begins.
+/// What is before an operation's block, with the byte where its name begins.
 #[derive(Drop)]
 pub struct Head {
     pub at: u32,

@@ -80,7 +80,7 @@ abbrev pub space : Bool → List ℕ
 space true = 32 ∷ []
 space false = []
 
--- the text of tokens behind a word, or behind no word
+-- the text of tokens after a word, or after no word
 abbrev pub text_behind : Bool → List Token → List ℕ
 text_behind word [] = []
 text_behind word (t ∷ ts) = space (word && is_word t) ++ (token_text t ++ text_behind (is_word t) ts)

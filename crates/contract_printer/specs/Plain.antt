@@ -30,7 +30,7 @@ abbrev pub formal_name : Option Formal → Name
 formal_name None = []
 formal_name (Some p) = p.name
 
--- the name of the parameter at a place
+-- the name of the parameter at a position
 abbrev pub param_name : List Formal → ℕ → Name
 param_name params i = formal_name (slice_get params i)
 

@@ -16,7 +16,7 @@ abbrev pub grouped : Bool → List Token → List Token
 grouped true ts = Open ∷ (ts ++ Close ∷ [])
 grouped false ts = ts
 
--- an expression that stands where this level is wanted
+-- an expression that is where this level is expected
 abbrev pub printed : ℕ → Tree → List Token
 printed l (number at n) = Number n ∷ []
 printed l (name at own x) = Named x false ∷ []
@@ -74,7 +74,7 @@ printed_head h = Fixed WordOp ∷ Named h.name false ∷ Open ∷ (printed_param
 abbrev pub printed_op : Op → List Token
 printed_op o = printed_head o.head ++ braced (printed_all o.body)
 
--- operations, one behind the other
+-- operations, one after the other
 abbrev pub printed_ops : List Op → List Token
 printed_ops [] = []
 printed_ops (o ∷ os) = printed_op o ++ printed_ops os

@@ -49,7 +49,7 @@ fn level(op: Calc) -> u8
     }
 }
 
-/// The name of the parameter at a place.
+/// The name of the parameter at a position.
 pub fn param_name<'a>(params: &'a [Param], place: u8) -> &'a [u8]
     ensures { result.now ≡ param_name (map formal_of params.now) place }
 {
@@ -69,7 +69,7 @@ pub fn local_name<'a>(locals: &'a [Name], slot: u8) -> &'a [u8]
     }
 }
 
-/// Writes a number where this level is wanted.
+/// Writes a number where this level is expected.
 #[tactic(auto, using(crate::proofs::Forms::exprs))]
 pub fn put_expr(
     out: &mut SpacedText,
@@ -103,7 +103,7 @@ pub fn put_expr(
     }
 }
 
-/// Writes a truth value where this level is wanted.
+/// Writes a truth value where this level is expected.
 #[tactic(auto, using(crate::proofs::Forms::conds))]
 pub fn put_cond(
     out: &mut SpacedText,

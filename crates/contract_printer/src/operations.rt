@@ -63,7 +63,7 @@ fn put_params(out: &mut SpacedText, params: &[Param]) -> Result<(), OutOfMemory>
     }
 }
 
-/// Writes what stands before an operation's block.
+/// Writes what is before an operation's block.
 #[tactic(auto, using(crate::proofs::Forms::put_both))]
 fn put_head(out: &mut SpacedText, op: &Op) -> Result<(), OutOfMemory>
     ensures { OnOk result (out.new ≡ put_all out.old (printed_head (plain_op (op_of op.now)).head)) }

@@ -103,7 +103,7 @@ impl SpacedText {
         self.text
     }
 
-    /// Writes the bytes of a token, behind a space where words would meet.
+    /// Writes the bytes of a token, after a space where words would meet.
     fn put(&mut self, piece: &[u8], is_word: bool) -> Result<(), OutOfMemory>
         ensures text { OnOk result (self.new.text ≡ self.old.text ++ (space (self.old.word && is_word) ++ piece.now)) }
         ensures word { OnOk result (self.new.word ≡ is_word) }

@@ -7,7 +7,7 @@ use Rattle.contract_reader.specs.declared.counts.Scope.{Scope}
 use Rattle.contract_reader.specs.declared.counts.Counts.{Counts}
 use Rattle.contract_grammar.specs.Limits as limits
 
--- what stands directly before
+-- what is directly before
 abbrev pub previous_of : Previous → limits.Previous
 previous_of previous.Plain = limits.plain
 previous_of previous.RepeatWord = limits.repeat_word

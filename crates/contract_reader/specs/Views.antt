@@ -33,7 +33,7 @@ abbrev pub partial_with : Option Expr → List expressions.Pending → expressio
 partial_with None st = expressions.want st
 partial_with (Some e) st = expressions.have (tree e) st
 
--- where the reading of an expression stands
+-- where the reading of an expression is
 abbrev pub partial_of : Partial → expressions.Partial
 partial_of s = partial_with s.operand (stack s.pending.items)
 

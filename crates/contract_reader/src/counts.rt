@@ -9,7 +9,7 @@ use contract_grammar::{Mark, Placed, Token};
 use std::alloc::Global;
 use txn_types::{MAX, MAX_TURNS, OutOfMemory};
 
-/// What stands directly before a token, where a limit depends on it.
+/// What is directly before a token, where a limit depends on it.
 #[derive(Clone, Copy, Debug, PartialEq, Eq)]
 pub enum Previous {
     Plain,

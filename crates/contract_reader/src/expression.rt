@@ -30,7 +30,7 @@ pub fn level(op: Operator) -> u8
     }
 }
 
-/// The level of what stands left of it.
+/// The level of what is left of it.
 fn left_level(op: Operator) -> u8
     ensures { result ≡ left_level op }
 {
@@ -50,7 +50,7 @@ fn first(e: &Expr) -> u32
     }
 }
 
-/// The same expression behind a parenthesis at this byte; a name keeps its own byte.
+/// The same expression after a parenthesis at this byte; a name keeps its own byte.
 fn begun_at(at: u32, e: Expr) -> Expr
     ensures { tree result ≡ begun_at at (tree e) }
 {
@@ -102,7 +102,7 @@ fn fold(
     Ok(operand)
 }
 
-/// Whether what is on top lets an operand of this level stand there.
+/// Whether what is on top lets an operand of this level be there.
 fn fits(least: u8, pending: &Vec<Pending>) -> bool
     ensures { result ≡ fits least (stack pending.now.items) }
 {
@@ -114,7 +114,7 @@ fn fits(least: u8, pending: &Vec<Pending>) -> bool
     }
 }
 
-/// Takes an operator with its left side, where it can stand.
+/// Takes an operator with its left side, where it can be.
 fn push_left(op: Operator, side: Expr, pending: Vec<Pending>) -> Result<Partial, Refusal>
     ensures { Steps result (pushed (left op (tree side)) (stack pending.items)) }
 {
@@ -129,7 +129,7 @@ fn push_left(op: Operator, side: Expr, pending: Vec<Pending>) -> Result<Partial,
     })
 }
 
-/// Takes a `not`, where it can stand.
+/// Takes a `not`, where it can be.
 fn push_not(at: u32, pending: Vec<Pending>) -> Result<Partial, Refusal>
     ensures { Steps result (pushed (negate at) (stack pending.items)) }
 {
@@ -154,7 +154,7 @@ fn operand(e: Expr, pending: Vec<Pending>) -> Partial
     }
 }
 
-/// Takes a token where an operand is wanted.
+/// Takes a token where an operand is expected.
 fn on_want(at: u32, token: &Token, pending: Vec<Pending>) -> Result<Partial, Refusal>
     ensures { Steps result (on_want at token.now (stack pending.items)) }
 {

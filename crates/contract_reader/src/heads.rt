@@ -51,7 +51,7 @@ pub fn on_open(
     }
 }
 
-/// Takes the first parameter's name, or the parenthesis behind no parameters.
+/// Takes the first parameter's name, or the parenthesis after no parameters.
 pub fn on_first(head: Head, at: u32, token: &Token, nest: &Nest) -> Result<Mode, Refusal>
     ensures { Goes result nest.now (on_first head at token.now (blocks_of nest.now.blocks.items) (operations nest.now.done)) }
 {
@@ -72,7 +72,7 @@ pub fn on_param(head: Head, at: u32, token: &Token, nest: &Nest) -> Result<Mode,
     }
 }
 
-/// Takes the colon behind a parameter's name.
+/// Takes the colon after a parameter's name.
 pub fn on_colon(
     head: Head,
     at: u32,
@@ -118,7 +118,7 @@ pub fn on_kind(head: Head, at: u32, name: Name, token: &Token, nest: &Nest) -> R
     }
 }
 
-/// Takes what stands behind a parameter: a comma, or the parenthesis.
+/// Takes what is after a parameter: a comma, or the parenthesis.
 pub fn on_more(head: Head, token: &Token, nest: &Nest) -> Result<Mode, Refusal>
     ensures { Goes result nest.now (on_more head token.now (blocks_of nest.now.blocks.items) (operations nest.now.done)) }
 {

@@ -15,7 +15,7 @@ pub enum Pending {
     Not(u32),
 }
 
-/// Where the reading of an expression stands: an operand is wanted, or there is one.
+/// How far the reading of an expression is: an operand is expected, or there is one.
 #[derive(Drop)]
 pub struct Partial {
     pub operand: Option<Expr>,

@@ -24,7 +24,7 @@ fn add_stmt(alloc: Global, stmt: Stmt, blocks: &mut Vec<Unclosed>) -> Result<(),
     Ok(())
 }
 
-/// Puts a statement, behind which another one can come.
+/// Puts a statement, after which another one can come.
 fn put_stmt(alloc: Global, stmt: Stmt, nest: &mut Nest) -> Result<Mode, Refusal>
     ensures { Goes result nest.new (Some (at at_stmt (with_stmt (statement stmt) (blocks_of nest.old.blocks.items)) (operations nest.old.done))) }
 {
@@ -115,7 +115,7 @@ pub fn on_let(at: u32, token: &Token, nest: &Nest) -> Result<Mode, Refusal>
     }
 }
 
-/// Takes the `=` behind a name.
+/// Takes the `=` after a name.
 pub fn on_equals(alloc: Global, purpose: Use, token: &Token, nest: &Nest) -> Result<Mode, Refusal>
     ensures { Goes result nest.now (on_equals (use_of purpose) token.now (blocks_of nest.now.blocks.items) (operations nest.now.done)) }
 {
@@ -155,7 +155,7 @@ fn on_semicolon(
     }
 }
 
-/// Opens the block behind an expression.
+/// Opens the block after an expression.
 fn on_brace(purpose: Use, e: Option<Expr>, nest: &mut Nest) -> Result<Mode, Refusal>
     ensures { Goes result nest.new (on_brace (use_of purpose) (option_map tree e) (blocks_of nest.old.blocks.items) (operations nest.old.done)) }
 {
@@ -168,7 +168,7 @@ fn on_brace(purpose: Use, e: Option<Expr>, nest: &mut Nest) -> Result<Mode, Refu
     }
 }
 
-/// Takes a token where an expression stands.
+/// Takes a token where an expression is.
 pub fn on_expr(
     alloc: Global,
     purpose: Use,
@@ -192,7 +192,7 @@ pub fn on_expr(
     }
 }
 
-/// Takes a token where an `else` can stand.
+/// Takes a token where an `else` can be.
 pub fn on_else(
     alloc: Global,
     e: Expr,

@@ -1,4 +1,4 @@
-//! What no clause says: that memory is there, and that texts come out as worked out by hand.
+//! What no clause says: that memory is there, and that texts come out as computed by hand.
 
 mod calls;
 mod canonical;

@@ -25,7 +25,7 @@ rank Double = 0
 rank UnknownName = 1
 rank Kind = 2
 
--- one flaw stands before another: at a lesser byte, or at its byte and in order
+-- one flaw is before another: at a lesser byte, or at its byte and in order
 abbrev pub is_before : Flaw → Flaw → Bool
 is_before f g = nat_lt f.at g.at || ((f.at == g.at) && nat_lt (rank f.kind) (rank g.kind))
 
@@ -38,7 +38,7 @@ earlier (Some g) f = if is_before f g then Some f else Some g
 abbrev pub noted : Option Flaw → List Flaw → Option Flaw
 noted first fs = fold earlier first fs
 
--- one of these flaws, before which none of them stands
+-- one of these flaws, before which none of them is
 abbrev pub IsFirst : Flaw → List Flaw → Type 0
 IsFirst f fs = Contains fs f × All (λ g. is_before g f ≡ false) fs
 
@@ -64,12 +64,12 @@ kind_flaws value.Number value.Truth at = flaw at Kind ∷ []
 kind_flaws value.Truth value.Number at = flaw at Kind ∷ []
 kind_flaws value.Truth value.Truth at = []
 
--- a name in an expression: an unknown one fits every kind, and stands at its own byte, also in parentheses
+-- a name in an expression: an unknown one fits every kind, and is at its own byte, also in parentheses
 abbrev pub name_flaws : Option Symbol → ValueKind → (at own : ℕ) → List Flaw
 name_flaws None wanted at own = flaw own UnknownName ∷ []
 name_flaws (Some s) wanted at own = kind_flaws value.Number wanted at
 
--- the flaws of an expression of which a kind is wanted
+-- the flaws of an expression of which a kind is expected
 abbrev pub expr_flaws : List Param → List (List ℕ) → ValueKind → Tree → List Flaw
 expr_flaws params locals wanted (number at n) = kind_flaws value.Number wanted at
 expr_flaws params locals wanted (name at own x) = name_flaws (symbol_of params locals x) wanted at own
@@ -103,7 +103,7 @@ abbrev mutual
   all_flaws params locals nil = []
   all_flaws params locals (then_one ss s) = all_flaws params locals ss ++ stmt_flaws params (locals ++ made ss) s
 
--- parameters that an earlier one has, behind those of these names
+-- parameters that an earlier one has, after those of these names
 abbrev pub param_flaws : List (List ℕ) → List Param → List Flaw
 param_flaws seen [] = []
 param_flaws seen (p ∷ ps) = double_flaws (is_named seen p.name) p.at ++ param_flaws (seen ++ p.name ∷ []) ps
@@ -112,7 +112,7 @@ param_flaws seen (p ∷ ps) = double_flaws (is_named seen p.name) p.at ++ param_
 abbrev pub op_flaws : Op → List Flaw
 op_flaws o = param_flaws [] o.head.params ++ all_flaws o.head.params [] o.body
 
--- the flaws of operations, behind those of these names
+-- the flaws of operations, after those of these names
 abbrev pub flaws_behind : List (List ℕ) → List Op → List Flaw
 flaws_behind seen [] = []
 flaws_behind seen (o ∷ os) = double_flaws (is_named seen o.head.name) o.head.at ++ (op_flaws o ++ flaws_behind (seen ++ o.head.name ∷ []) os)

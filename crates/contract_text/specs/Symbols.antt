@@ -8,17 +8,17 @@ use Rattle.contract_grammar.specs.Tree.{Statement, define, assign, demand, choos
 use Rattle.contract_text.specs.declared.symbols.Symbol.{Symbol}
 use Rattle.contract_text.specs.declared.symbols.Symbol.TheVariants as symbol
 
--- a parameter by its kind and its place
+-- a parameter by its kind and its position
 abbrev pub parameter_symbol : ParamKind → ℕ → Symbol
 parameter_symbol kind.Record place = symbol.Rec place
 parameter_symbol kind.Number place = symbol.Num place
 
--- the first of these parameters with a name, where they begin at a place
+-- the first of these parameters with a name, where they begin at a position
 abbrev pub among_params : ℕ → List Param → List ℕ → Option Symbol
 among_params place [] x = None
 among_params place (p ∷ ps) x = if pointwise nat_eq p.name x then Some (parameter_symbol p.kind place) else among_params (place + 1) ps x
 
--- the first of these locals with a name, where they begin at a place
+-- the first of these locals with a name, where they begin at a position
 abbrev pub among_locals : ℕ → List (List ℕ) → List ℕ → Option Symbol
 among_locals place [] x = None
 among_locals place (y ∷ ys) x = if pointwise nat_eq y x then Some (symbol.Local place) else among_locals (place + 1) ys x

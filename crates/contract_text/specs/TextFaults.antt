@@ -51,6 +51,6 @@ Tells text (flawed f) = HasFlaw text f
 abbrev pub Judge : Type 0
 Judge = List ℕ → Verdict
 
--- of each text it tells what is so
+-- of each text it says what is so
 abbrev pub IsJudge : Judge → Type 0
 IsJudge judge = (text : List ℕ) → Tells text (judge text)

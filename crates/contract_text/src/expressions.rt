@@ -83,7 +83,7 @@ fn used(symbol: Option<Symbol>) -> Expr
     }
 }
 
-/// A number, by the names and places of what it uses.
+/// A number, by the names and positions of what it uses.
 #[tactic(auto, using(crate::proofs::Forms::expressions))]
 pub fn typed_expr(
     alloc: Global,
@@ -110,7 +110,7 @@ pub fn typed_expr(
     }
 }
 
-/// A truth value, by the names and places of what it uses.
+/// A truth value, by the names and positions of what it uses.
 #[tactic(auto, using(crate::proofs::Forms::conditions))]
 pub fn typed_cond(
     alloc: Global,

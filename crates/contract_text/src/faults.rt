@@ -15,7 +15,7 @@ pub enum TextFault {
     Syntax { at: u32 },
     /// A name that is no parameter and no visible local.
     UnknownName { at: u32 },
-    /// An expression that isn't of the wanted kind, or a number parameter left of `=`.
+    /// An expression that isn't of the expected kind, or a number parameter left of `=`.
     Kind { at: u32 },
     /// A token that passes a limit.
     Limit { at: u32 },

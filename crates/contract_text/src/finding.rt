@@ -9,7 +9,7 @@ use crate::symbols::symbol_of;
 use contract_grammar::{Expr, Param};
 use txn_types::Name;
 
-/// Notes the first flaw of an expression of which a kind is wanted.
+/// Notes the first flaw of an expression of which a kind is expected.
 #[tactic(auto, using(crate::proofs::Noted::noted_both))]
 pub fn find(
     params: &[Param],

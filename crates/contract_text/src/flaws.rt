@@ -19,7 +19,7 @@ pub enum FlawKind {
     Double,
     /// The name is no parameter and no visible local.
     UnknownName,
-    /// The expression isn't of the wanted kind, or the name's value can't change.
+    /// The expression isn't of the expected kind, or the name's value can't change.
     Kind,
 }
 
@@ -61,7 +61,7 @@ pub fn note(first: &mut Option<Flaw>, at: u32, kind: FlawKind)
     }
 }
 
-/// Notes an expression of another kind than the wanted one.
+/// Notes an expression of another kind than the expected one.
 pub fn note_kind(first: &mut Option<Flaw>, at: u32, has: ValueKind, wanted: ValueKind)
     ensures { first.new ≡ noted first.old (kind_flaws has wanted at) }
 {

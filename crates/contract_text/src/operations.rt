@@ -16,7 +16,7 @@ use std::alloc::Global;
 use txn_core::{Op, Ops, Param, ParamKind, Params};
 use txn_types::{Names, OutOfMemory};
 
-/// Notes the first parameter whose name an earlier one has, behind those of these names.
+/// Notes the first parameter whose name an earlier one has, after those of these names.
 #[tactic(auto, using(crate::proofs::Noted::noted_both))]
 fn find_params(
     seen: &mut Names,
@@ -44,7 +44,7 @@ fn typed_kind(kind: RawKind) -> ParamKind
     }
 }
 
-/// Puts the parameters behind those that are there.
+/// Puts the parameters after those that are there.
 fn put_params(all: &mut Params, params: &[RawParam]) -> Result<(), OutOfMemory>
     ensures { OnOk result (map formal_of all.new ≡ map formal_of all.old ++ map formal params.now) }
 {
@@ -80,7 +80,7 @@ fn typed_op(alloc: Global, first: &mut Option<Flaw>, raw: &Operation) -> Result<
     })
 }
 
-/// Puts the operations behind those that are there, whose names are these; the first flaw is noted.
+/// Puts the operations after those that are there, whose names are these; the first flaw is noted.
 #[tactic(auto, using(crate::proofs::Noted::noted_both))]
 pub fn put_ops(
     alloc: Global,

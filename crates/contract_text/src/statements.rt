@@ -50,7 +50,7 @@ fn assigned(target: Option<Symbol>, value: Expr) -> Stmt
     }
 }
 
-/// Takes out the names behind so many.
+/// Takes out the names after so many.
 fn shrink(names: &mut Names, count: usize)
     requires { count ≤ length names.old }
     ensures { names.new ≡ take count names.old }
@@ -60,7 +60,7 @@ fn shrink(names: &mut Names, count: usize)
     }
 }
 
-/// A statement; its first flaw is noted, and the local that it makes is put behind those that are visible.
+/// A statement; its first flaw is noted, and the local that it makes is put after those that are visible.
 #[cycle(blocks)]
 #[tactic(auto, using(crate::proofs::Forms::statements, crate::proofs::Noted::noted_both))]
 fn typed_stmt(
@@ -139,7 +139,7 @@ pub fn typed_block(
     Ok(typed)
 }
 
-/// The statements of a block; the first flaw is noted, and the locals that they make are put behind those that are visible.
+/// The statements of a block; the first flaw is noted, and the locals that they make are put after those that are visible.
 #[cycle(blocks)]
 #[tactic(auto, using(crate::proofs::Noted::noted_both))]
 fn typed_all(

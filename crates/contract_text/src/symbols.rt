@@ -7,7 +7,7 @@ ghost use Rattle.contract_text.specs.Symbols.{parameter_symbol, among_params, am
 use contract_grammar::{Param, ParamKind};
 use txn_types::Name;
 
-/// What a name stands for: a record parameter or a number parameter by its place from the left, or a local by its place among the visible ones, the oldest first.
+/// What a name stands for: a record parameter or a number parameter by its position from the left, or a local by its position among the visible ones, the oldest first.
 #[derive(Clone, Copy, Debug, PartialEq, Eq)]
 pub enum Symbol {
     Rec(u8),

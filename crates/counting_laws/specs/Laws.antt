@@ -3,7 +3,7 @@ use Rattle.std.specs.Prelude.{ℕ, ◌==◌, ◌≡◌, Bool, List, ◌++◌, So
 use Rattle.std.specs.List.{list_any}
 use Rattle.node_defs.specs.Counting.{first_of_each, first_to_reach}
 
--- a sender stands among the first of each exactly where it stands in the list
+-- a sender is among the first of each exactly where it is in the list
 abbrev pub SendersStay : Type 0 → Type 0
 SendersStay A = (s : ℕ) (xs : List (ℕ × A)) → list_any (λ y. y.0 == s) (first_of_each xs) ≡ list_any (λ y. y.0 == s) xs
 

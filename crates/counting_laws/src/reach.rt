@@ -34,7 +34,7 @@ fn count_same<T: Tally>(tally: &T, entry: &T::Entry, entries: &[T::Entry]) -> us
         .count()
 }
 
-/// The entry that counts and was the first to carry a content so many times, where entries stand in the order in which they came.
+/// The entry that counts and was the first to carry a content so many times, where entries are in the order in which they came.
 pub fn first_to_reach<'a, T: Tally>(
     tally: &T,
     count: u8,

@@ -23,7 +23,7 @@ under s (Contract app k at) = Contract app k at
 under s (Name p) = Name (s ∷ p)
 under s (Double p) = Double (s ∷ p)
 
--- a check of what stands one step further down
+-- a check of what is one step further down
 abbrev pub within : {A : Type 0} → Step → Result A Fault → Result A Fault
 within s (Ok x) = Ok x
 within s (Err f) = Err (under s f)

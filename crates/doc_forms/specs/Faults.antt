@@ -7,7 +7,7 @@ use Rattle.doc_forms.specs.declared.fault.Which.{Which}
 pub data TextKind : Type 0 where
   Syntax UnknownName Kind Limit Double : TextKind
 
--- why a document is refused: a path leads from the root to where the fault stands
+-- why a document is refused: a path leads from the root to where the fault is
 pub data Fault : Type 0 where
   NotJson : Fault
   Field : (path : List Step) → Fault

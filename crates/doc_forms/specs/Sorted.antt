@@ -12,12 +12,12 @@ order a b = slice_cmp nat_cmp a b
 abbrev pub IsInOrder : List (List ℕ) → Type 0
 IsInOrder names = (i j : ℕ) → i < j → j < length names → order (slice_index_or names i []) (slice_index_or names j []) ≡ Less
 
--- the count of names below the text that stand before the first one that isn't
+-- the count of names below the text that are before the first one that isn't
 unfoldable pub gap_of : List (List ℕ) → List ℕ → ℕ
 gap_of [] text = 0
 gap_of (name ∷ names) text = if is_lt (order name text) then suc (gap_of names text) else 0
 
--- the text would go at this place: smaller names before it, and greater names from it on
+-- the text would go at this position: smaller names before it, and greater names from it on
 pub record IsGap (names : List (List ℕ)) (t : List ℕ) (i : ℕ) : Type 0 where
   pub in_range : i ≤ length names
   pub smaller : (j : ℕ) → j < i → order (slice_index_or names j []) t ≡ Less

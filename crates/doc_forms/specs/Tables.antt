@@ -10,7 +10,7 @@ use Rattle.doc_forms.specs.Faults.{Fault, Name, Double}
 use Rattle.doc_forms.specs.Check.{◌>>=◌}
 use Rattle.doc_forms.specs.Forms.{name, is_listed}
 
--- the place of a name in a table
+-- the position of a name in a table
 unfoldable pub place_of : List (List ℕ) → List ℕ → Option ℕ
 place_of names text = position (λ other. bytes_eq other text) names
 
@@ -18,7 +18,7 @@ place_of names text = position (λ other. bytes_eq other text) names
 abbrev pub below : ℕ → ℕ → Option ℕ
 below bound n = if nat_lt n bound then Some n else None
 
--- the place of a name in a table, as a number below this bound
+-- the position of a name in a table, as a number below this bound
 unfoldable pub place_below : ℕ → List (List ℕ) → List ℕ → Option ℕ
 place_below bound names text = option_and_then (below bound) (place_of names text)
 
@@ -46,7 +46,7 @@ reference lookup v = do
 unfoldable pub has_rank : {E : Type 0} → (E → ℕ) → List E → ℕ → Bool
 has_rank rank entries n = list_any (λ other. rank other == n) entries
 
--- how many of the entries have a lower rank: the place among entries that rise
+-- how many of the entries have a lower rank: the position among entries that rise
 unfoldable pub count_below : {E : Type 0} → (E → ℕ) → List E → ℕ → ℕ
 count_below rank entries n = count_by (λ other. nat_lt (rank other) n) entries
 
@@ -54,7 +54,7 @@ count_below rank entries n = count_by (λ other. nat_lt (rank other) n) entries
 abbrev pub put_in : {E : Type 0} → (E → ℕ) → List E → E → List E
 put_in rank entries e = insert entries (count_below rank entries (rank e)) e
 
--- a reference that isn't among those before it, put into its place
+-- a reference that isn't among those before it, put where it belongs
 unfoldable pub new_reference : {E : Type 0} → (E → ℕ) → (List ℕ → Option E) → List E → Data → Result (List E) Fault
 new_reference rank lookup before d = do
   e ← reference lookup (Some d)

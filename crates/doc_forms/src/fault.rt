@@ -45,7 +45,7 @@ impl Path {
         self.steps.as_slice()
     }
 
-    /// The same place, seen from one step further up.
+    /// The same position, seen from one step further up.
     pub fn push_front(&mut self, step: Step) -> Result<(), OutOfMemory>
         ensures ok { OnOk result (self.new ≡ step ∷ self.old) }
         ensures err { OnErr result (self.new ≡ self.old) }
@@ -102,22 +102,22 @@ pub enum Which {
     Configs,
 }
 
-/// Why a document is refused, or that memory was wanted.
+/// Why a document is refused, or that memory ran out.
 #[derive(Drop)]
 pub enum DocFault {
     /// It isn't UTF-8, isn't JSON, or nests more than 127 deep.
     NotJson,
-    /// At this place stands another kind of value than the form asks for, or a key that it doesn't list.
+    /// At this path there is another kind of value than the form asks for, or a key that it doesn't list.
     Field { path: Path },
     /// There is more than the greatest permitted number, or less than the least one; the number is the greatest.
     Limit { which: Which, limit: u64 },
     /// The contract of this application, from 0, has this fault, which is never `TextFault::OutOfMemory`.
     Contract { app: u32, fault: TextFault },
-    /// At this place stands no name, or the name of nothing.
+    /// At this path there is no name, or the name of nothing.
     Name { path: Path },
-    /// At this place stands a name that is taken.
+    /// At this path there is a name that is taken.
     Double { path: Path },
-    /// Memory was wanted and not there.
+    /// Memory ran out.
     OutOfMemory,
 }
 

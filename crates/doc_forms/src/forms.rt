@@ -1,4 +1,4 @@
-//! The forms of values, each checked where it stands.
+//! The forms of values, each checked where it is.
 
 ghost use Rattle.std.specs.Prelude.{◌≡◌, ◌≤◌, [], Some, vec_len, IfOk, OnOk, IsErrAnd, MatchResult};
 ghost use Rattle.serde_json.specs.Find.{get_member};
@@ -95,7 +95,7 @@ fn key_text(alloc: Global, key: &str) -> Result<Text, OutOfMemory>
     Ok(text)
 }
 
-/// The outcome of a check of what stands at a key.
+/// The outcome of a check of what is at a key.
 pub fn at<T: Drop>(alloc: Global, key: &str, checked: Result<T, DocFault>) -> Result<T, DocFault>
     ensures { MatchResult checked (λ x. result ≡ Ok x) (λ f. IsErrAnd result (IsRaised (Key key.now) f)) }
 {

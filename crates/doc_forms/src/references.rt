@@ -90,7 +90,7 @@ fn place_of(names: &[Name], text: &[u8]) -> Option<usize>
     names.iter().position(|other| other.as_slice() == text)
 }
 
-/// Names as they stand in the document, whose places are numbers of 8 bits.
+/// Names as they are in the document, whose positions are numbers of 8 bits.
 impl NamedTable for Names {
     type Target = u8;
 

@@ -69,7 +69,7 @@ impl SortedNames {
         )
     }
 
-    /// Puts a new name at its place.
+    /// Puts a new name at its position.
     pub fn insert(&mut self, i: usize, name: Name) -> Result<(), OutOfMemory>
         requires { IsGap self.now name i }
         ensures ok { OnOk result (self.new ≡ insert self.old i name) }
@@ -79,7 +79,7 @@ impl SortedNames {
     }
 }
 
-/// Names in byte order, whose places are numbers of 16 bits.
+/// Names in byte order, whose positions are numbers of 16 bits.
 impl NamedTable for SortedNames {
     type Target = u16;
 

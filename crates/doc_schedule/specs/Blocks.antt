@@ -21,14 +21,14 @@ abbrev pub role_at : Option (Bor ItemRole) → Option ItemRole
 role_at None = None
 role_at (Some s) = Some s.now
 
--- a request may stand among others, a configuration alone
+-- a request may be among others, a configuration alone
 abbrev pub may_stand : Bool → Option ItemRole → Bool
 may_stand alone None = false
 may_stand alone (Some Barred) = false
 may_stand alone (Some Call) = true
 may_stand alone (Some Config) = alone
 
--- the place of an item that may stand there
+-- the position of an item that may be there
 unfoldable pub next_txn : List ItemRole → Bool → List ℕ → Data → Result (List ℕ) Fault
 next_txn roles alone before d = do
   place ← place_in (length roles) word.Item (Some d)
@@ -43,7 +43,7 @@ txns_of roles total v = do
   ds ← list_in 1 256 word.Txns v
   txns_within roles total ds
 
--- the items of a `block` event, behind so many items of the events before it
+-- the items of a `block` event, after so many items of the events before it
 unfoldable pub txns_at : List ItemRole → ℕ → Members → Result (List ℕ) Fault
 txns_at roles total ms = at (codes "txns") ms (txns_of roles total)
 
@@ -91,7 +91,7 @@ abbrev pub first_role : List ItemRole → List ℕ → Option ItemRole
 first_role roles [] = None
 first_role roles (i ∷ rest) = slice_get roles i
 
--- how many transactions the items are: a configuration stands alone and is none
+-- how many transactions the items are: a configuration is alone and is none
 unfoldable pub count_of : List ItemRole → List ℕ → ℕ
 count_of roles items = if is_config_role (first_role roles items) then 0 else length items
 
@@ -99,7 +99,7 @@ count_of roles items = if is_config_role (first_role roles items) then 0 else le
 unfoldable pub preds_at : List ItemRole → List ℕ → Members → Result (Option (List (List ℕ))) Fault
 preds_at roles items ms = at (codes "preds") ms (preds (count_of roles items))
 
--- the previous hash and the graph of a `block` event with these items, behind which no other key is listed
+-- the previous hash and the graph of a `block` event with these items, after which no other key is listed
 unfoldable pub links_at : List ItemRole → List ℕ → Members → Result (Option (List ℕ) × Option (List (List ℕ))) Fault
 links_at roles items ms = do
   prev ← prev_at ms

@@ -1,4 +1,4 @@
--- Places, which a document numbers from 1.
+-- Positions, which a document numbers from 1.
 use Rattle.std.specs.Prelude.{ℕ, ◌-◌, Option, Result, Ok}
 use Rattle.serde_json.specs.Data.{Data}
 use Rattle.doc_forms.specs.declared.fault.Which.{Which}
@@ -6,7 +6,7 @@ use Rattle.doc_forms.specs.Faults.{Fault}
 use Rattle.doc_forms.specs.Check.{◌>>=◌}
 use Rattle.doc_forms.specs.Forms.{number_in}
 
--- a number from 1 on, as a place from 0
+-- a number from 1 on, as a position from 0
 unfoldable pub place_in : ℕ → Which → Option Data → Result ℕ Fault
 place_in high which v = do
   n ← number_in 1 high which v

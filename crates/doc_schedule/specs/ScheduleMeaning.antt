@@ -19,7 +19,7 @@ use Rattle.node_defs.specs.World.{MayBeNamed, is_all, is_false, items_named, vot
 use Rattle.node_defs.specs.Sayings.{txns_named}
 use Rattle.doc_forms.specs.Meaning.{IsNameAt, IsNodeName, HasNumber, HasText, HasReference, HasOnly, HasList}
 
--- a place, which a document numbers from 1
+-- a position, which a document numbers from 1
 abbrev pub HasPlace : ℕ → Option Data → ℕ → Type 0
 HasPlace high v i = HasNumber 1 high v (i + 1)
 

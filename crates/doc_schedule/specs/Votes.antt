@@ -85,6 +85,6 @@ votes_of total v = do
   ds ← list_in 0 256 word.Votes v
   votes_within total ds
 
--- the votes of a `commit` event, behind so many votes of the events before it
+-- the votes of a `commit` event, after so many votes of the events before it
 unfoldable pub votes_at : ℕ → Members → Result (List Vote) Fault
 votes_at total ms = at (codes "votes") ms (votes_of total)

@@ -89,7 +89,7 @@ fn txns(
     txns_within(alloc, roles, total, list.as_slice())
 }
 
-/// The items of a `block` event, behind so many items of the events before it.
+/// The items of a `block` event, after so many items of the events before it.
 #[tactic(auto, unfolding(crate::specs::Blocks::txns_at))]
 pub fn txns_at(
     alloc: Global,
@@ -255,7 +255,7 @@ fn if_ended(
     }
 }
 
-/// The previous hash and the graph of a `block` event with these items, behind which no other key is listed.
+/// The previous hash and the graph of a `block` event with these items, after which no other key is listed.
 #[tactic(auto, unfolding(crate::specs::Blocks::links_at))]
 pub fn links_at(
     alloc: Global,

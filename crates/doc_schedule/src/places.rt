@@ -1,4 +1,4 @@
-//! Places, which a document numbers from 1.
+//! Positions, which a document numbers from 1.
 
 ghost use Rattle.std.specs.Prelude.{◌<◌, IfOk};
 ghost use Rattle.doc_forms.specs.Answers.{Gives};
@@ -9,7 +9,7 @@ use doc_forms::{DocFault, Which, number_in};
 use serde_json::Value;
 use std::alloc::Global;
 
-/// A number from 1 on, as a place from 0.
+/// A number from 1 on, as a position from 0.
 #[tactic(auto, using(doc_forms::proofs::Meant::number_means), unfolding(crate::specs::Places::place_in))]
 pub fn place_in(
     alloc: Global,

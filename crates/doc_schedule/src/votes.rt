@@ -186,7 +186,7 @@ fn votes(alloc: Global, total: u64, value: Option<&Value>) -> Result<Votes, DocF
     votes_within(alloc, total, list.as_slice())
 }
 
-/// The votes of a `commit` event, behind so many votes of the events before it.
+/// The votes of a `commit` event, after so many votes of the events before it.
 #[tactic(auto, unfolding(crate::specs::Votes::votes_at))]
 pub fn votes_at(alloc: Global, total: u64, members: &Map<String, Value>) -> Result<Votes, DocFault>
     ensures check { Gives (λ votes. votes) result (votes_at total (members_view members.now.entries)) }

@@ -53,7 +53,7 @@ contract_at judge k app ms = at k ms (contract judge app)
 unfoldable pub only_app_keys : Members → Result ⊤ Fault
 only_app_keys ms = only (codes "name" ∷ codes "agents" ∷ codes "tau" ∷ codes "clients" ∷ codes "contract" ∷ []) ms
 
--- an application behind those before it
+-- an application after those before it
 unfoldable pub application : Judge → List (List ℕ) → List App → Members → Result App Fault
 application judge peers before ms = do
   called ← unused_at (codes "name") before ms

@@ -20,7 +20,7 @@ pair d = do
   ds ← wanted (as_array d)
   if items_len ds == 2 then Ok tt else Err (Field [])
 
--- no such name stands there
+-- no such name is there
 abbrev pub no_place : Option ℕ → Result ⊤ Fault
 no_place (Some i) = Err (Double [])
 no_place None = Ok tt

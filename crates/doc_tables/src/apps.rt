@@ -142,7 +142,7 @@ fn only_app_keys(alloc: Global, members: &Map<String, Value>) -> Result<(), DocF
     )
 }
 
-/// An application behind those before it.
+/// An application after those before it.
 #[tactic(auto, unfolding(crate::specs::Apps::application))]
 fn application(
     alloc: Global,

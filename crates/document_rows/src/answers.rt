@@ -41,7 +41,7 @@ pub fn answer<R: Threads + Sync>(
     answer_with(rt, alloc, line, bytes, &FreeGate)
 }
 
-/// The same, where this gate is told of each transaction.
+/// The same, where this gate is called for each transaction.
 pub fn answer_with<R: Threads + Sync, G: Gate>(
     rt: &R,
     alloc: Global,

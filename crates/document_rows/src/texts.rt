@@ -2,7 +2,7 @@
 //!
 //! A section is a line `== WORDS: TITLE`, a document, a line `--`, and what the command of the words says of the document and then writes.
 //! There may be several WORDS with `, ` between; each of them is answered so.
-//! What stands before the first section is no part of a table. In a document, `<N times PIECE>` stands as in rows.
+//! What is before the first section is no part of a table. In a document, `<N times PIECE>` is as in rows.
 
 use crate::rows::expanded;
 use crate::{Trouble, answer};

@@ -92,7 +92,7 @@ impl<T: Drop> GrowingList<T> {
         Ok(())
     }
 
-    /// Puts an item in the place of item `i`.
+    /// Puts an item in place of item `i`.
     pub fn set(&mut self, i: usize, x: T)
         requires { i < length self.old }
         ensures { self.new ≡ slice_set self.old i x }

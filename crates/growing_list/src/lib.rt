@@ -1,4 +1,4 @@
-//! Lists on the heap, and that memory was wanted and not there.
+//! Lists on the heap, and that memory ran out.
 #![tactic(auto)]
 
 mod growing;

@@ -21,7 +21,7 @@ abbrev pub tip_behind : List ℕ → List Entry → List ℕ
 tip_behind prev [] = prev
 tip_behind prev (e ∷ rest) = tip_behind e.hash rest
 
--- the hash of the last entry, or that which stands before block 1
+-- the hash of the last entry, or that which is before block 1
 abbrev pub tip_of : List Entry → List ℕ
 tip_of entries = tip_behind no_hash entries
 

@@ -1,4 +1,4 @@
--- What stands first in a document, with its first fault: its version, the kind of graphs, and how the stream is cut.
+-- What is first in a document, with its first fault: its version, the kind of graphs, and how the stream is cut.
 use Rattle.std.specs.Prelude.{ℕ, ◌==◌, List, [], ◌∷◌, codes, Option, Some, None, option_and_then, Result, Ok, Err, if◌then◌else◌, ⊤}
 use Rattle.std.specs.Str.{bytes_eq}
 use Rattle.serde_json.specs.Data.{Data, Members, object}

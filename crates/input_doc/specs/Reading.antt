@@ -90,6 +90,6 @@ abbrev pub read_tree : Judge → Option Data → Result Input Fault
 read_tree judge None = Err NotJson
 read_tree judge (Some d) = document judge d
 
--- what the bytes mean, or their first fault, where each contract's text comes to what the judge tells
+-- what the bytes mean, or their first fault, where each contract's text comes to what the judge says
 unfoldable pub reading : Judge → List ℕ → Result Input Fault
 reading judge bytes = read_tree judge (tree_of bytes)

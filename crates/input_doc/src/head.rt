@@ -1,4 +1,4 @@
-//! What stands first in a document: its version, the kind of graphs, and how the stream is cut.
+//! What is first in a document: its version, the kind of graphs, and how the stream is cut.
 
 ghost use Rattle.std.specs.Prelude.{◌≡◌};
 ghost use Rattle.serde_json.specs.View.{members_view};

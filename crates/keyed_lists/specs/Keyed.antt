@@ -13,14 +13,14 @@ abbrev pub items_of : {K T : Type 0} → List (K × List T) → List T
 items_of [] = []
 items_of (l ∷ rest) = l.1 ++ items_of rest
 
--- the same with one item more, which stands somewhere among them
+-- the same with one item more, which is somewhere among them
 pub record IsPutAmong {T : Type 0} (xs : List T) (x : T) (ys : List T) : Type 0 where
   pub before : List T
   pub behind : List T
   pub were : xs ≡ before ++ behind
   pub are : ys ≡ before ++ x ∷ behind
 
--- the item stands at the end of the list at its key, and the lists at other keys are as they were
+-- the item is at the end of the list at its key, and the lists at other keys are as they were
 pub record IsPushed {K T : Type 0} (cmp : K → K → Ordering) (old : List (K × List T)) (key : K) (item : T) (new : List (K × List T)) : Type 0 where
   pub at : (q : K) → list_at (eq_by_cmp cmp q) new ≡ (if eq_by_cmp cmp key q then list_at (eq_by_cmp cmp key) old ++ item ∷ [] else list_at (eq_by_cmp cmp q) old)
   pub among : IsPutAmong (items_of old) item (items_of new)

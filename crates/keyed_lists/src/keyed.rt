@@ -37,7 +37,7 @@ impl<K: Ord, T> KeyedLists<K, T> {
         }
     }
 
-    /// The list at a key, or nothing where none stands.
+    /// The list at a key, or nothing where there is none.
     pub fn at(&self, key: &K) -> &[T]
         ensures { result.now ≡ list_at (eq_by_cmp K.cmp key.now) self.now }
     {

@@ -9,11 +9,11 @@ use Rattle.oxii_defs.specs.State.{State}
 use Rattle.oxii_defs.specs.Effects.{apply}
 use Rattle.oxii_defs.specs.Dependency.{depends}
 
--- what stands where there is no outcome
+-- what is where there is no outcome
 abbrev pub no_outcome : Outcome
 no_outcome = Abort Require
 
--- what stands where there is no transaction
+-- what is where there is no transaction
 abbrev pub no_txn : Txn
 no_txn = record { app = 0; op = 0; args = []; reads = []; writes = [] }
 

@@ -76,7 +76,7 @@ fn hash_behind(hashes: &Hashes, number: u64) -> [u8; 32]
     hashes.as_slice()[m]
 }
 
-/// A block of these items, behind the agreed block of the number before where no other hash is said.
+/// A block of these items, after the agreed block of the number before where no other hash is said.
 pub fn said_block(
     alloc: Global,
     hashes: &Hashes,

@@ -20,7 +20,7 @@ use Rattle.node_defs.specs.Same.{same_list, same_number}
 abbrev pub same_name : Name → Name → Bool
 same_name = same_list same_number
 
--- the first that has this name, with its place, counted from i
+-- the first that has this name, with its position, counted from i
 abbrev pub first_named : {A : Type 0} → (A → Name) → Name → ℕ → List A → Option (ℕ × A)
 first_named name_of name i [] = None
 first_named name_of name i (x ∷ rest) = if same_name (name_of x) name then Some (i, x) else first_named name_of name (suc i) rest
@@ -83,7 +83,7 @@ abbrev pub pieces_of : Table → List Item → List (Option Piece)
 pieces_of table [] = []
 pieces_of table (x ∷ rest) = piece_of table x ∷ pieces_of table rest
 
--- the reject of a request that is not admitted, by the place of its item
+-- the reject of a request that is not admitted, by the position of its item
 abbrev pub reject_of_answer : ℕ → Result Txn Reject → List Rejected
 reject_of_answer i (Ok t) = []
 reject_of_answer i (Err why) = record { item = i; why = why } ∷ []

@@ -2,7 +2,7 @@
 use Rattle.std.specs.Prelude.{ℕ, List, [], get_or, None}
 use Rattle.txn_types.specs.declared.block.Block.{Block}
 
--- what stands where there is no block
+-- what is where there is no block
 abbrev pub no_block : Block
 no_block = record { number = 0; prev = []; txns = []; config = None }
 

@@ -14,12 +14,12 @@ use Rattle.oxii_defs.specs.Table.{Table}
 use Rattle.oxii_defs.specs.BlockBytes.{txn_bytes}
 use Rattle.node_defs.specs.Admission.{piece_of, reject_of}
 
--- an admitted item, and whether a mark stands in the stream between it and the next admitted one
+-- an admitted item, and whether a mark is in the stream between it and the next admitted one
 pub record AdmittedItem : Type 0 where
   pub piece : Piece
   pub marked : Bool
 
--- a mark stands before the next admitted item
+-- a mark is before the next admitted item
 abbrev pub mark_comes : Table → List Item → Bool
 mark_comes table [] = false
 mark_comes table (item.Mark ∷ rest) = true
@@ -35,7 +35,7 @@ abbrev pub admitted : Table → List Item → List AdmittedItem
 admitted table [] = []
 admitted table (x ∷ rest) = admitted_with (piece_of table x) (mark_comes table rest) (admitted table rest)
 
--- the rejected requests, with their places in the stream, counted from i
+-- the rejected requests, with their positions in the stream, counted from i
 abbrev pub rejected_from : Table → ℕ → List Item → List Rejected
 rejected_from table i [] = []
 rejected_from table i (x ∷ rest) = reject_of table i x ++ rejected_from table (suc i) rest
@@ -64,12 +64,12 @@ abbrev pub IsAlone : List AdmittedItem → Type 0
 IsAlone (x ∷ y ∷ rest) = AllByRecursion IsCall (x ∷ y ∷ rest)
 IsAlone _ = Unit {0}
 
--- no mark stands between two of the list
+-- no mark is between two of the list
 abbrev pub HasNoMark : List AdmittedItem → Type 0
 HasNoMark (x ∷ y ∷ rest) = (x.marked ≡ false) × HasNoMark (y ∷ rest)
 HasNoMark _ = Unit {0}
 
--- a mark stands behind its last
+-- a mark is after its last
 abbrev pub last_marked : List AdmittedItem → Bool
 last_marked [] = false
 last_marked (x ∷ []) = x.marked

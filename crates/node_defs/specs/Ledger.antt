@@ -123,6 +123,6 @@ heard rules me (e ∷ L) = if is_split rules me (heard rules me L) then heard ru
 abbrev pub halt : Rules → ℕ → Log → Option Halt
 halt rules me L = split rules me (heard rules me L)
 
--- the block that is accepted behind m completed blocks
+-- the block that is accepted after m completed blocks
 abbrev pub accepted_at : Rules → ℕ → ℕ → Log → Option Block
 accepted_at rules me m L = accepted_after rules m (completed rules me m L) L

@@ -1,5 +1,5 @@
 -- A log: what was delivered to a peer, with its senders.
--- Every list that grows with the log stands the latest first: a log, the ballots, the ledger.
+-- Every list that grows with the log is the latest first: a log, the ballots, the ledger.
 -- So the log before its last entry is the tail, and each prefix of the log is a tail of it.
 use Rattle.std.specs.Prelude.{ℕ, ◌==◌, Bool, ◌&&◌, not, if◌then◌else◌, List, [], ◌∷◌, map, reverse, length, Option, Some, None, filter_map, nat_lt}
 use Rattle.txn_types.specs.declared.txn.Outcome.{Outcome}
@@ -20,7 +20,7 @@ pub record Letter : Type 0 where
   pub from : Node
   pub message : Message
 
--- the latest entry stands first
+-- the latest entry is first
 abbrev pub Log : Type 0
 Log = List Letter
 

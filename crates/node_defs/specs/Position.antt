@@ -28,7 +28,7 @@ pub record Standing : Type 0 where
 abbrev pub is_agent : Rules → ℕ → Txn → Bool
 is_agent rules p t = contains (rules.agents t.app) p
 
--- the block is accepted, and each predecessor of t is known, where the positions before it stand like this
+-- the block is accepted, and each predecessor of t is known, where the positions before it are like this
 abbrev pub is_ready : Rules → Work → ℕ → Bool → List Standing → Bool
 is_ready rules w t opened earlier = opened && knows_all rules.table.kind (txn_at w.txns t) w.txns (map (λ s. s.believed) earlier)
 
@@ -42,7 +42,7 @@ ran rules w t earlier L = is_agent rules w.me (txn_at w.txns t) && is_ready rule
 abbrev pub own_outcome : Rules → Work → ℕ → (Log → List Standing) → Log → Outcome
 own_outcome rules w t earlier L = rules.outcome (after_known w.base w.txns (map (λ s. s.believed) (earlier L))) (txn_at w.txns t)
 
--- the votes on t, the latest first. This peer's own stands directly behind those of the entry with which t ran
+-- the votes on t, the latest first. This peer's own is directly after those of the entry with which t ran
 abbrev pub ballots : Rules → Work → ℕ → (Log → List Standing) → Log → List (ℕ × Outcome)
 ballots rules w t earlier [] = []
 ballots rules w t earlier (e ∷ L) =
@@ -53,7 +53,7 @@ ballots rules w t earlier (e ∷ L) =
 abbrev pub tally : Rules → Work → ℕ → (Log → List Standing) → Log → List Outcome
 tally rules w t earlier L = map (λ v. v.1) (filter (λ v. is_agent rules v.0 (txn_at w.txns t)) (first_of_each (ballots rules w t earlier L)))
 
--- the fitting outcome that first stood tau times
+-- the fitting outcome that first was tau times
 abbrev pub agreed : Rules → Work → ℕ → (Log → List Standing) → Log → Option Outcome
 agreed rules w t earlier L = first_to_reach same_outcome (rules.tau (txn_at w.txns t).app) (filter (is_fit (txn_at w.txns t)) (tally rules w t earlier L))
 

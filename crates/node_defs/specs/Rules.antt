@@ -1,4 +1,4 @@
--- What a peer works by, and what is in force behind blocks.
+-- What a peer works by, and what is in force after blocks.
 use Rattle.std.specs.Prelude.{ℕ, ◌==◌, if◌then◌else◌, List, [], ◌∷◌, map, Option, Some, None, ◌≡◌, true}
 use Rattle.std.specs.List.{slice_index_or}
 use Rattle.txn_types.specs.declared.txn.Outcome.{Outcome}
@@ -44,17 +44,17 @@ abbrev pub changed : {A : Type 0} → Option Config → (Config → A) → ℕ �
 changed None of app before = before
 changed (Some c) of app before = if c.app == app then of c else before
 
--- the agents behind these blocks, the latest first
+-- the agents after these blocks, the latest first
 abbrev pub agents_behind : Rules → List Block → ℕ → List ℕ
 agents_behind rules [] app = rules.agents app
 agents_behind rules (b ∷ before) app = changed b.config (λ c. c.agents) app (agents_behind rules before app)
 
--- how many votes are to agree behind these blocks
+-- how many votes are to agree after these blocks
 abbrev pub tau_behind : Rules → List Block → ℕ → ℕ
 tau_behind rules [] app = rules.tau app
 tau_behind rules (b ∷ before) app = changed b.config (λ c. c.tau) app (tau_behind rules before app)
 
--- the rules that are in force behind these blocks
+-- the rules that are in force after these blocks
 abbrev pub in_force_behind : Rules → List Block → Rules
 in_force_behind rules blocks = record {
   table = rules.table;
@@ -65,7 +65,7 @@ in_force_behind rules blocks = record {
   tau = tau_behind rules blocks;
 }
 
--- the rules that are in force behind a ledger
+-- the rules that are in force after a ledger
 abbrev pub in_force : Rules → List Entry → Rules
 in_force rules done = in_force_behind rules (map (λ e. e.block) done)
 

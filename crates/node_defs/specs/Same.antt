@@ -22,7 +22,7 @@ same_option same None None = true
 same_option same (Some x) (Some y) = same x y
 same_option same _ _ = false
 
--- as long, and equal at each place
+-- as long, and equal at each position
 abbrev pub same_list : {A : Type 0} → (A → A → Bool) → List A → List A → Bool
 same_list same [] [] = true
 same_list same (x ∷ xs) (y ∷ ys) = same x y && same_list same xs ys

@@ -46,18 +46,18 @@ abbrev pub all_own_in : Rules → Work → List ℕ → ℕ → Bool
 all_own_in rules w order zero = true
 all_own_in rules w order (suc t) = (not (is_agent rules w.me (txn_at w.txns t)) || contains order t) && all_own_in rules w order t
 
--- a cut stands behind the last position of this order: another application waits for it, or all that is this peer's ran
+-- a cut is after the last position of this order: another application waits for it, or all that is this peer's ran
 abbrev pub is_cut : Rules → Work → List ℕ → Bool
 is_cut rules w [] = false
 is_cut rules w (t ∷ before) =
     other_app_follows t (txn_at w.txns t).app (graph_of rules.table.kind w.txns) w.txns || all_own_in rules w (t ∷ before) (length w.txns)
 
--- what stands behind the last cut, the latest first
+-- what is after the last cut, the latest first
 abbrev pub held : Rules → Work → List ℕ → List ℕ
 held rules w [] = []
 held rules w (t ∷ before) = if is_cut rules w (t ∷ before) then [] else t ∷ held rules w before
 
--- what stands between two cuts, the latest first
+-- what is between two cuts, the latest first
 abbrev pub batches : Rules → Work → List ℕ → List (List ℕ)
 batches rules w [] = []
 batches rules w (t ∷ before) = if is_cut rules w (t ∷ before) then (t ∷ held rules w before) ∷ batches rules w before else batches rules w before
@@ -72,7 +72,7 @@ vote_on all t = record { t = t; outcome = unwrap_or (get_or all t no_standing).b
 abbrev pub commit_of : Work → List Standing → List ℕ → Commit
 commit_of w all batch = record { n = w.n; votes = map (vote_on all) (reverse batch) }
 
--- behind the last position of the batch a cut stands that came with entry e
+-- after the last position of the batch there is a cut that came with entry e
 abbrev pub is_due : Rules → Work → Letter → Log → List ℕ → Bool
 is_due rules w e L [] = false
 is_due rules w e L (t ∷ before) = not (did_run rules w t L)

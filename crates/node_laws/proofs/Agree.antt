@@ -18,7 +18,8 @@ use Rattle.node_defs.specs.Rules.{IsLocal, Rules, in_force}
 use Rattle.node_defs.specs.Same.{same_block, same_list, same_number, same_outcome}
 use Rattle.node_defs.specs.Serial.{IsNumbered, serial_base, serial_ledger, serial_outcomes_at}
 use Rattle.node_defs.specs.Blocks.{block_at}
-use Rattle.node_laws.proofs.Counting.{Has, distinct_filter, distinct_senders, honest_among, keep_member}
+use Rattle.node_laws.specs.Fed.{Has}
+use Rattle.node_laws.proofs.Counting.{distinct_filter, distinct_senders, honest_among, keep_member}
 use Rattle.node_defs.proofs.SameLemmas.{same_block_decides, same_outcome_decides}
 use Rattle.node_laws.proofs.Few.{FewOrderers, IsTameAll, IsTameAt}
 use Rattle.node_laws.proofs.Order.{length_serial, same_outcome_through, serial_at, within_push}
@@ -44,11 +45,11 @@ for_append : (faulty : Node → Bool) (r : Outcome) (xs ys : List (ℕ × Outcom
 for_append faulty r [] ys a b = b
 for_append faulty r (x ∷ xs) ys a b = (a.0, for_append faulty r xs ys a.1 b)
 
-for_first : (faulty : Node → Bool) (r : Outcome) (xs : List (ℕ × Outcome)) → AllFor faulty r xs → AllFor faulty r (first_of_each xs)
+pub for_first : (faulty : Node → Bool) (r : Outcome) (xs : List (ℕ × Outcome)) → AllFor faulty r xs → AllFor faulty r (first_of_each xs)
 for_first faulty r [] a = tt
 for_first faulty r (x ∷ xs) a = elim (list_any (λ y. y.0 == x.0) xs) as (λ b. AllFor faulty r (cond b (first_of_each xs) (x ∷ first_of_each xs))) [ true ↦ for_first faulty r xs a.1 | false ↦ (a.0, for_first faulty r xs a.1) ]
 
-for_has : (faulty : Node → Bool) (r : Outcome) (xs : List (ℕ × Outcome)) (x : ℕ × Outcome) → AllFor faulty r xs → Has x xs → faulty (Peer x.0) ≡ false → x.1 ≡ r
+pub for_has : (faulty : Node → Bool) (r : Outcome) (xs : List (ℕ × Outcome)) (x : ℕ × Outcome) → AllFor faulty r xs → Has x xs → faulty (Peer x.0) ≡ false → x.1 ≡ r
 for_has faulty r [] x a h = absurd h
 for_has faulty r (y ∷ ys) x a (inl e) = subst (λ (z : ℕ × Outcome). faulty (Peer z.0) ≡ false → z.1 ≡ r) (sym e) a.0
 for_has faulty r (y ∷ ys) x a (inr h) = for_has faulty r ys x a.1 h
@@ -129,7 +130,7 @@ own_right rules l chain faulty me m t opens earlier k right L s ready =
     same_outcome_through rules l (serial_base rules chain m) (txn_at txns t) txns (beliefs (earlier L)) (Serials rules chain m t) p.1 (right L s)
     ∙ sym (serial_at rules (serial_base rules chain m) txns t no_outcome k)
 
-ballots_right : (rules : Rules) → IsLocal rules → (chain : List Block) (faulty : Node → Bool) (me m t : ℕ) (opens : Log → Bool) (earlier : Log → List Standing) → m < length chain → t < length (block_at chain m).txns → RightEarlier rules chain faulty m t earlier → (L : Log) → Sound rules chain faulty L → AllFor faulty (right_at rules chain m t) (ballots rules (chain_work rules chain me m opens) t earlier L)
+pub ballots_right : (rules : Rules) → IsLocal rules → (chain : List Block) (faulty : Node → Bool) (me m t : ℕ) (opens : Log → Bool) (earlier : Log → List Standing) → m < length chain → t < length (block_at chain m).txns → RightEarlier rules chain faulty m t earlier → (L : Log) → Sound rules chain faulty L → AllFor faulty (right_at rules chain m t) (ballots rules (chain_work rules chain me m opens) t earlier L)
 ballots_right rules l chain faulty me m t opens earlier j k right [] s = tt
 ballots_right rules l chain faulty me m t opens earlier j k right (e ∷ L) s =
     for_append faulty (right_at rules chain m t) _ _
@@ -199,10 +200,10 @@ beliefs_right rules l chain faulty me m tame opens j (suc t) k L s =
 -- THE ACCEPTED BLOCK
 
 -- a good NEWBLOCK is of an orderer of the table, and that of a correct one carries a block of the chain, with this number
-abbrev IsFromChain : Rules → List Block → (Node → Bool) → ℕ → ℕ × Block → Type 0
+abbrev pub IsFromChain : Rules → List Block → (Node → Bool) → ℕ → ℕ × Block → Type 0
 IsFromChain rules chain faulty n x = (x.0 < length rules.table.orderers) × (faulty (Orderer x.0) ≡ false → (x.1.number ≡ n) × ((m : ℕ) × (m < length chain) × (x.1 ≡ block_at chain m)))
 
-abbrev AllChain : Rules → List Block → (Node → Bool) → ℕ → List (ℕ × Block) → Type 0
+abbrev pub AllChain : Rules → List Block → (Node → Bool) → ℕ → List (ℕ × Block) → Type 0
 AllChain rules chain faulty n xs = AllByRecursion (IsFromChain rules chain faulty n) xs
 
 good_right : (rules : Rules) (chain : List Block) (faulty : Node → Bool) (n : ℕ) (e : Letter) → IsSound rules chain faulty e → (x : ℕ × Block) → newblock_in rules n e ≡ Some x → IsFromChain rules chain faulty n x
@@ -222,7 +223,7 @@ good_right rules chain faulty n e s x h = from e.from e.message s h
         let q = cond_some (is_good rules n o m) (o, m.block) x k in
         subst (IsFromChain rules chain faulty n) q.1 (good o m i q.0)
 
-goods_right : (rules : Rules) (chain : List Block) (faulty : Node → Bool) (n : ℕ) (L : Log) → Sound rules chain faulty L → AllChain rules chain faulty n (filter_map (newblock_in rules n) L)
+pub goods_right : (rules : Rules) (chain : List Block) (faulty : Node → Bool) (n : ℕ) (L : Log) → Sound rules chain faulty L → AllChain rules chain faulty n (filter_map (newblock_in rules n) L)
 goods_right rules chain faulty n [] s = tt
 goods_right rules chain faulty n (e ∷ L) s = one (newblock_in rules n e) refl (goods_right rules chain faulty n L s.1)
   where
@@ -230,11 +231,11 @@ goods_right rules chain faulty n (e ∷ L) s = one (newblock_in rules n e) refl 
     one None q h = h
     one (Some x) q h = (good_right rules chain faulty n e s.0 x q, h)
 
-chain_first : (rules : Rules) (chain : List Block) (faulty : Node → Bool) (n : ℕ) (xs : List (ℕ × Block)) → AllChain rules chain faulty n xs → AllChain rules chain faulty n (first_of_each xs)
+pub chain_first : (rules : Rules) (chain : List Block) (faulty : Node → Bool) (n : ℕ) (xs : List (ℕ × Block)) → AllChain rules chain faulty n xs → AllChain rules chain faulty n (first_of_each xs)
 chain_first rules chain faulty n [] a = tt
 chain_first rules chain faulty n (x ∷ xs) a = elim (list_any (λ y. y.0 == x.0) xs) as (λ b. AllChain rules chain faulty n (cond b (first_of_each xs) (x ∷ first_of_each xs))) [ true ↦ chain_first rules chain faulty n xs a.1 | false ↦ (a.0, chain_first rules chain faulty n xs a.1) ]
 
-chain_has : (rules : Rules) (chain : List Block) (faulty : Node → Bool) (n : ℕ) (xs : List (ℕ × Block)) (x : ℕ × Block) → AllChain rules chain faulty n xs → Has x xs → IsFromChain rules chain faulty n x
+pub chain_has : (rules : Rules) (chain : List Block) (faulty : Node → Bool) (n : ℕ) (xs : List (ℕ × Block)) (x : ℕ × Block) → AllChain rules chain faulty n xs → Has x xs → IsFromChain rules chain faulty n x
 chain_has rules chain faulty n [] x a h = absurd h
 chain_has rules chain faulty n (y ∷ ys) x a (inl e) = subst (IsFromChain rules chain faulty n) (sym e) a.0
 chain_has rules chain faulty n (y ∷ ys) x a (inr h) = chain_has rules chain faulty n ys x a.1 h
@@ -306,7 +307,7 @@ none_differs (o ∷ os) (x ∷ xs) a = or_from (differs x) (list_any differs xs)
     one true (Some p) None f h = ap not ((same_outcome_decides p p).1 refl)
     one true (Some p) (Some q) f h = ap not (subst (λ z. same_outcome p z ≡ true) (f p refl ∙ sym (h q refl)) ((same_outcome_decides p p).1 refl))
 
-length_serial_ledger : (rules : Rules) (chain : List Block) (m : ℕ) → length (serial_ledger rules chain m) ≡ m
+pub length_serial_ledger : (rules : Rules) (chain : List Block) (m : ℕ) → length (serial_ledger rules chain m) ≡ m
 length_serial_ledger rules chain zero = refl
 length_serial_ledger rules chain (suc m) = ap suc (length_serial_ledger rules chain m)
 

@@ -83,11 +83,11 @@ pub all_append : {A : Type 0} (P : A → Type 0) (xs ys : List A) → AllByRecur
 all_append P [] ys a b = b
 all_append P (x ∷ xs) ys a b = (a.0, all_append P xs ys a.1 b)
 
-all_reverse : {A : Type 0} (P : A → Type 0) (xs : List A) → AllByRecursion P xs → AllByRecursion P (reverse xs)
+pub all_reverse : {A : Type 0} (P : A → Type 0) (xs : List A) → AllByRecursion P xs → AllByRecursion P (reverse xs)
 all_reverse P [] a = tt
 all_reverse P (x ∷ xs) a = subst (AllByRecursion P) (sym (reverse-append (x ∷ []) xs)) (all_append P (reverse xs) (x ∷ []) (all_reverse P xs a.1) (a.0, tt))
 
-all_filter : {A : Type 0} (P : A → Type 0) (p : A → Bool) (xs : List A) → AllByRecursion P xs → AllByRecursion P (filter p xs)
+pub all_filter : {A : Type 0} (P : A → Type 0) (p : A → Bool) (xs : List A) → AllByRecursion P xs → AllByRecursion P (filter p xs)
 all_filter P p [] a = tt
 all_filter P p (x ∷ xs) a = elim (p x) as (λ b. AllByRecursion P (cond b (x ∷ filter p xs) (filter p xs))) [ true ↦ (a.0, all_filter P p xs a.1) | false ↦ all_filter P p xs a.1 ]
 
@@ -108,7 +108,7 @@ if_ran true u b h = refl
 if_ran false u b h = absurd (false≢true h)
 
 -- what ran is known
-ran_known : (rules : Rules) (w : Work) (K : Log) (t : ℕ) → AllByRecursion (λ (x : Standing). x.ran ≡ true → is_some x.believed ≡ true) (standings rules w t K)
+pub ran_known : (rules : Rules) (w : Work) (K : Log) (t : ℕ) → AllByRecursion (λ (x : Standing). x.ran ≡ true → is_some x.believed ≡ true) (standings rules w t K)
 ran_known rules w K zero = tt
 ran_known rules w K (suc t) = all_append (λ (x : Standing). x.ran ≡ true → is_some x.believed ≡ true) (standings rules w t K) (standing rules w t (standings rules w t) K ∷ []) (ran_known rules w K t)
     (if_ran (ran rules w t (standings rules w t) K) (own_outcome rules w t (standings rules w t) K) (cond (is_ready rules w t (w.opens K) (standings rules w t K)) (agreed rules w t (standings rules w t) K) None), tt)
@@ -142,7 +142,7 @@ pub held_all : (rules : Rules) (w : Work) (P : ℕ → Type 0) (ts : List ℕ) �
 held_all rules w P [] a = tt
 held_all rules w P (t ∷ ts) a = elim (is_cut rules w (t ∷ ts)) as (λ b. AllByRecursion P (cond b [] (t ∷ held rules w ts))) [ true ↦ tt | false ↦ (a.0, held_all rules w P ts a.1) ]
 
-batches_all : (rules : Rules) (w : Work) (P : ℕ → Type 0) (ts : List ℕ) → AllByRecursion P ts → AllByRecursion (AllByRecursion P) (batches rules w ts)
+pub batches_all : (rules : Rules) (w : Work) (P : ℕ → Type 0) (ts : List ℕ) → AllByRecursion P ts → AllByRecursion (AllByRecursion P) (batches rules w ts)
 batches_all rules w P [] a = tt
 batches_all rules w P (t ∷ ts) a = elim (is_cut rules w (t ∷ ts)) as (λ b. AllByRecursion (AllByRecursion P) (cond b ((t ∷ held rules w ts) ∷ batches rules w ts) (batches rules w ts))) [ true ↦ ((a.0, held_all rules w P ts a.1), batches_all rules w P ts a.1) | false ↦ batches_all rules w P ts a.1 ]
 

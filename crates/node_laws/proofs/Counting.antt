@@ -1,5 +1,5 @@
 -- What is first of each sender, and what is first to reach a count, stays so for a longer list.
-use Rattle.std.specs.Prelude.{ℕ, ◌==◌, ◌+◌, ◌<◌, ◌≤◌, Bool, true, false, ◌&&◌, cond, if◌then◌else◌, List, [], ◌∷◌, ◌++◌, map, length, Option, Some, None, count_by, filter, ◌≡◌, refl, ◌⊎◌}
+use Rattle.std.specs.Prelude.{ℕ, ◌==◌, ◌+◌, ◌<◌, ◌≤◌, Bool, true, false, ◌&&◌, cond, if◌then◌else◌, List, [], ◌∷◌, ◌++◌, map, length, Option, Some, None, count_by, filter, ◌≡◌, refl}
 use Rattle.std.specs.List.{list_any, list_all, IsDistinct, AllByRecursion}
 use Rattle.std.specs.Option.{option_or}
 use Rattle.std.proofs.Common.{sym, ◌∙◌, ap, subst, inl, inr, arith, eqb, ⊎_elim, zero-add}
@@ -14,11 +14,8 @@ use Rattle.std.proofs.lemmas.List.{map-append}
 use Rattle.std.proofs.lemmas.Option.{none-some, cond_some}
 use Rattle.node_defs.specs.Counting.{first_of_each, first_to_reach}
 use Rattle.node_defs.proofs.CountingLemmas.{reached_stays, count_by-cons}
+use Rattle.node_laws.specs.Fed.{Has}
 use Rattle.node_laws.specs.Growth.{Grew}
-
-abbrev pub Has : {A : Type 0} → A → List A → Type 0
-Has x [] = ⊥
-Has x (y ∷ ys) = (x ≡ y) ⊎ Has x ys
 
 pub grew_first_of_each : {A : Type 0} (xs new : List (ℕ × A)) → Grew (first_of_each xs) (first_of_each (new ++ xs))
 grew_first_of_each xs [] = record { new = []; is = refl }
@@ -136,7 +133,8 @@ one_outside {A} p es F d l = one (list_all (λ e. is_member eqb F e.0) (filter p
         let few = length-le_from_is_member nat_eq_equiv (map (λ (e : ℕ × A). e.0) (filter p es)) F (distinct_filter p es d) (member_of F (filter p es) h) in
         absurd (omega (arith, few, l, length-map (filter p es) (λ (e : ℕ × A). e.0), length-filter p es))
 
-counted_through : {A : Type 0} (same : A → A → Bool) (fit : A → Bool) (b : A) (es : List (ℕ × A)) → count_by (same b) (filter fit (map (λ (e : ℕ × A). e.1) es)) ≡ count_by (λ e. fit e.1 && same b e.1) es
+-- how many of the items that pass a test are the same as one
+pub counted_through : {A : Type 0} (same : A → A → Bool) (fit : A → Bool) (b : A) (es : List (ℕ × A)) → count_by (same b) (filter fit (map (λ (e : ℕ × A). e.1) es)) ≡ count_by (λ e. fit e.1 && same b e.1) es
 counted_through same fit b [] = refl
 counted_through {A} same fit b (e ∷ es) = one (fit e.1) (counted_through same fit b es) ∙ sym (count_by-cons (λ (f : ℕ × A). fit f.1 && same b f.1) e es)
   where

@@ -10,20 +10,16 @@ use Rattle.node_defs.specs.Rules.{IsLocal, Rules}
 use Rattle.node_defs.specs.Sent.{sent}
 use Rattle.node_defs.specs.World.{Happens, LeadTo, Setting, World, all_from, count_from, delivered, first_pool, given_to, given_all, given_each, idled, is_faulty, message_at, peers_of, said_by, start}
 use Rattle.node_defs.specs.Programs.{setting_of}
-use Rattle.node_laws.proofs.Counting.{Has}
 use Rattle.node_laws.proofs.Run.{same_world}
 use Rattle.node_laws.proofs.Same.{rules_local}
-use Rattle.node_laws.proofs.Totals.{IsOf, total, total_fits}
+use Rattle.node_laws.proofs.Totals.{total_fits}
+use Rattle.node_laws.specs.Fed.{Has, IsFed, IsOf, total, totals}
 use Rattle.node_laws.specs.OneWorld.{AllEnds, OneWorld, most_messages, txns_carried}
 use Rattle.txn_types.specs.declared.event.Event.{Event}
 use Rattle.txn_types.specs.declared.message.Commit.{Commit}
 use Rattle.txn_types.specs.declared.message.Node.TheVariants.{Peer}
 
 -- WORLDS WHOSE LOGS COME FROM THE POOL
-
-pub record IsFed (s : Setting) (w : World) : Type 0 where
-  pub logs : AllByRecursion (IsOf w.pool) w.logs
-  pub count : length w.logs ≡ peers_of s
 
 pub in_more : (pool more : List Letter) (x : Letter) → Has x pool → Has x (pool ++ more)
 in_more [] more x h = absurd h
@@ -68,11 +64,6 @@ commits_carry p [] = refl
 commits_carry p (c ∷ cs) = let e = commits_carry p cs in omega arith
 
 -- WHAT THE PEERS SENT
-
--- how many COMMITs the peers from number i on sent in all
-abbrev pub totals : Rules → ℕ → List Log → ℕ
-totals rules i [] = 0
-totals rules i (L ∷ logs) = total rules i L + totals rules (suc i) logs
 
 totals_set : (rules : Rules) (i : ℕ) (logs : List Log) (p : ℕ) (L : Log) → p < length logs → totals rules i (set logs p L) + total rules (i + p) (get_or logs p []) ≡ totals rules i logs + total rules (i + p) L
 totals_set rules i [] p L h = absurd (omega arith)
@@ -191,7 +182,7 @@ empty_logs : (pool : List Letter) (n : ℕ) → AllByRecursion (IsOf pool) (repl
 empty_logs pool zero = tt
 empty_logs pool (suc n) = (λ x h. absurd h, empty_logs pool n)
 
-length_logs : (n : ℕ) → length (replicate {A = Log} n []) ≡ n
+pub length_logs : (n : ℕ) → length (replicate {A = Log} n []) ≡ n
 length_logs zero = refl
 length_logs (suc n) = ap suc (length_logs n)
 

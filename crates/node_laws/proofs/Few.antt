@@ -1,5 +1,6 @@
 -- Few enough nodes are faulty, as the counting of senders uses it.
-use Rattle.std.specs.Prelude.{ℕ, ◌+◌, ◌<◌, ◌≤◌, ◌≡◌, Bool, true, false, cond, List, [], ◌∷◌, map, length, filter, suc, zero, refl, ◌==◌, ◌||◌, ◌⊎◌}
+use Rattle.std.specs.Prelude.{ℕ, ◌+◌, ◌<◌, ◌≤◌, ◌≡◌, Bool, true, false, cond, List, [], ◌∷◌, map, length, filter, count_by, suc, zero, refl, ◌==◌, ◌||◌, ◌⊎◌}
+use Rattle.std.specs.List.{All}
 use Rattle.std.specs.Set.{is_member}
 use Rattle.std.proofs.Common.{eqb, sym, ◌∙◌, ap, arith, subst, inl, inr}
 use Rattle.std.proofs.lemmas.Bool.{or_cases, false≢true, eqb-true, eq-eqb, cases_lt}
@@ -10,8 +11,9 @@ use Rattle.node_defs.specs.Rules.{Rules, agents_behind, in_force, in_force_behin
 use Rattle.oxii_defs.specs.State.{contains}
 use Rattle.node_defs.specs.Serial.{serial_ledger}
 use Rattle.node_defs.specs.Blocks.{block_at}
-use Rattle.node_defs.specs.Tame.{IsTame, first_blocks}
+use Rattle.node_defs.specs.Tame.{IsTame, first_blocks, rules_at}
 use Rattle.node_defs.specs.World.{Setting, count_from, is_faulty, orderers_of}
+use Rattle.node_laws.proofs.Same.{or_true}
 use Rattle.oxii_defs.specs.Lines.{Entry}
 use Rattle.txn_types.specs.declared.block.Block.{Block}
 use Rattle.txn_types.specs.declared.message.Node.{Node}
@@ -40,10 +42,6 @@ abbrev pub IsTameAll : Rules → List Block → (Node → Bool) → Type 0
 IsTameAll rules chain faulty = (m : ℕ) → IsTameAt (in_force rules (serial_ledger rules chain m)) chain faulty m
 
 -- FROM THE INPUT
-
-or_true : (b : Bool) → (b || true) ≡ true
-or_true true = refl
-or_true false = refl
 
 kept : (p : ℕ → Bool) (xs : List ℕ) (x : ℕ) → contains xs x ≡ true → p x ≡ true → is_member eqb (filter p xs) x ≡ true
 kept p [] x h k = absurd (false≢true h)
@@ -75,23 +73,30 @@ counted i (suc n) x l h = one (x == i) refl (λ a b. counted (suc i) n x a b)
         later (inl k) = omega arith
         later (inr k) = let q : x ≡ i = omega arith in absurd (false≢true (sym e ∙ eq-eqb x i q))
 
-same_blocks : (rules : Rules) (chain : List Block) (m : ℕ) → map (λ (e : Entry). e.block) (serial_ledger rules chain m) ≡ first_blocks chain m
+-- the blocks of a serial ledger are the first of the chain
+pub same_blocks : (rules : Rules) (chain : List Block) (m : ℕ) → map (λ (e : Entry). e.block) (serial_ledger rules chain m) ≡ first_blocks chain m
 same_blocks rules chain zero = refl
 same_blocks rules chain (suc m) = ap (λ bs. block_at chain m ∷ bs) (same_blocks rules chain m)
 
-pub tame_all : (s : Setting) → IsTame s → IsTameAll s.rules s.chain (is_faulty s)
-tame_all s h m = record { orderers = by_orderers; agents = λ t j k. subst (λ bs. FewAgents (in_force_behind s.rules bs) (is_faulty s) (txn_at (block_at s.chain m).txns t)) (sym (same_blocks s.rules s.chain m)) (by_agents t j k) }
+-- any nodes that are few at each block of the chain are few by what is in force there
+pub few_all : (s : Setting) (liar : Node → Bool) → count_by (λ o. liar (Orderer o)) (count_from 0 (orderers_of s)) < s.rules.table.quorum →
+    ((m : ℕ) → m < length s.chain → All (λ t. count_by (λ p. liar (Peer p)) ((rules_at s m).agents t.app) < (rules_at s m).tau t.app) (block_at s.chain m).txns) → IsTameAll s.rules s.chain liar
+few_all s liar orderers agents m = record { orderers = by_orderers; agents = λ t j k. subst (λ bs. FewAgents (in_force_behind s.rules bs) liar (txn_at (block_at s.chain m).txns t)) (sym (same_blocks s.rules s.chain m)) (by_agents t j k) }
   where
-    by_orderers : FewOrderers (in_force s.rules (serial_ledger s.rules s.chain m)) (is_faulty s)
+    by_orderers : FewOrderers (in_force s.rules (serial_ledger s.rules s.chain m)) liar
     by_orderers = record {
-      named = filter (λ o. is_faulty s (Orderer o)) (count_from 0 (orderers_of s));
-      few = omega (arith, h.orderers, length-filter (λ o. is_faulty s (Orderer o)) (count_from 0 (orderers_of s)));
-      others = λ o l out. fails (λ o. is_faulty s (Orderer o)) (count_from 0 (orderers_of s)) o (counted 0 (orderers_of s) o (omega arith) (omega arith)) out;
+      named = filter (λ o. liar (Orderer o)) (count_from 0 (orderers_of s));
+      few = omega (arith, orderers, length-filter (λ o. liar (Orderer o)) (count_from 0 (orderers_of s)));
+      others = λ o l out. fails (λ o. liar (Orderer o)) (count_from 0 (orderers_of s)) o (counted 0 (orderers_of s) o (omega arith) (omega (arith, l))) out;
     }
 
-    by_agents : (t : ℕ) → m < length s.chain → t < length (block_at s.chain m).txns → FewAgents (in_force_behind s.rules (first_blocks s.chain m)) (is_faulty s) (txn_at (block_at s.chain m).txns t)
+    by_agents : (t : ℕ) → m < length s.chain → t < length (block_at s.chain m).txns → FewAgents (in_force_behind s.rules (first_blocks s.chain m)) liar (txn_at (block_at s.chain m).txns t)
     by_agents t j k = record {
-      named = filter (λ p. is_faulty s (Peer p)) (agents_behind s.rules (first_blocks s.chain m) (txn_at (block_at s.chain m).txns t).app);
-      few = omega (arith, h.agents m j t no_txn k, length-filter (λ p. is_faulty s (Peer p)) (agents_behind s.rules (first_blocks s.chain m) (txn_at (block_at s.chain m).txns t).app));
-      others = λ p a out. fails (λ p. is_faulty s (Peer p)) (agents_behind s.rules (first_blocks s.chain m) (txn_at (block_at s.chain m).txns t).app) p a out;
+      named = filter (λ p. liar (Peer p)) (agents_behind s.rules (first_blocks s.chain m) (txn_at (block_at s.chain m).txns t).app);
+      few = omega (arith, agents m j t no_txn k, length-filter (λ p. liar (Peer p)) (agents_behind s.rules (first_blocks s.chain m) (txn_at (block_at s.chain m).txns t).app));
+      others = λ p a out. fails (λ p. liar (Peer p)) (agents_behind s.rules (first_blocks s.chain m) (txn_at (block_at s.chain m).txns t).app) p a out;
     }
+
+-- those that are faulty, where the input is tame
+pub tame_all : (s : Setting) → IsTame s → IsTameAll s.rules s.chain (is_faulty s)
+tame_all s h = few_all s (is_faulty s) h.orderers h.agents

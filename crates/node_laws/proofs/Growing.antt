@@ -15,7 +15,7 @@ use Rattle.node_defs.specs.Same.{same_block, same_list, same_number, same_outcom
 use Rattle.node_defs.proofs.SameLemmas.{same_outcome_decides}
 use Rattle.node_laws.proofs.Counting.{grew_filter, grew_first, grew_map, stays_reached}
 use Rattle.node_laws.proofs.Order.{same_outcome_through}
-use Rattle.node_laws.proofs.Same.{Within}
+use Rattle.node_laws.proofs.Same.{Within, or_true}
 use Rattle.node_laws.specs.Growth.{Grew, KeepAll, Keeps}
 use Rattle.oxii_defs.specs.Dependency.{depends}
 use Rattle.oxii_defs.specs.Lines.{Entry}
@@ -145,10 +145,6 @@ pub knows_known : (kind : Kind) (t : Txn) (ts : List Txn) (xs : List Standing) �
 knows_known kind t [] xs k = refl
 knows_known kind t (a ∷ ts) [] k = refl
 knows_known kind t (a ∷ ts) (x ∷ xs) k = and_from _ _ (rw k.0.1 (or_true (not (depends kind a t)))) (knows_known kind t ts xs k.1)
-  where
-    or_true : (b : Bool) → (b || true) ≡ true
-    or_true true = refl
-    or_true false = refl
 
 pub all_push : {A : Type 0} (p : A → Bool) (xs : List A) (x : A) → list_all p (xs ++ x ∷ []) ≡ true → (list_all p xs ≡ true) × (p x ≡ true)
 all_push p [] x h = (refl, (and_parts (p x) true h).0)

@@ -11,6 +11,7 @@ pub mod Few
 pub mod Admissions
 pub mod Agree
 pub mod AgreeSent
+pub mod Letters
 pub mod AgreeWorld
 pub mod SerialPart
 pub mod Batches
@@ -24,3 +25,4 @@ pub mod Bodies
 pub mod LawfulBlockLemmas
 pub mod Texts
 pub mod Settle
+pub mod Standings

@@ -121,7 +121,8 @@ covers kind t r (a ∷ ts) (None ∷ xs) (y ∷ ys) reads k w =
 
 -- LOCALITY
 
-or_true : (b : Bool) → (b || true) ≡ true
+-- a test that holds either way holds
+pub or_true : (b : Bool) → (b || true) ≡ true
 or_true true = refl
 or_true false = refl
 

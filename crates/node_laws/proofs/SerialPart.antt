@@ -7,18 +7,21 @@ use Rattle.node_defs.specs.Ledger.{after_outcomes, heard, ledger, ledger_state}
 use Rattle.node_defs.specs.Programs.{rules_of, setting_of}
 use Rattle.node_defs.specs.Serial.{serial, serial_base, serial_ledger}
 use Rattle.node_defs.specs.Blocks.{block_at, no_block}
-use Rattle.node_defs.specs.Text.{halted_line}
-use Rattle.node_defs.specs.World.{log_of}
+use Rattle.node_defs.specs.Text.{halted_line, part_of}
+use Rattle.node_defs.specs.World.{World, completed_count, log_of}
 use Rattle.node_laws.proofs.AgreeWorld.{agreement}
 use Rattle.node_laws.proofs.Conflicts.{serial_is}
-use Rattle.node_laws.specs.Agreement.{SerialPart}
+use Rattle.node_laws.specs.Agreement.{IsWithChain, SerialPart}
 use Rattle.oxii_defs.specs.Lines.{Entry, peer_lines}
-use Rattle.oxii_defs.specs.SerialPart.{ledger_of, state_after, serial_outcomes, serial_state}
+use Rattle.oxii_defs.specs.SerialPart.{ledger_of, serial_part, state_after, serial_outcomes, serial_state}
 use Rattle.oxii_defs.specs.Outcomes.{outcome_in}
 use Rattle.oxii_defs.specs.Effects.{apply}
 use Rattle.oxii_defs.specs.State.{State}
 use Rattle.oxii_defs.specs.Table.{Table}
 use Rattle.txn_types.specs.declared.block.Block.{Block}
+use Rattle.txn_types.specs.declared.block.Body.{Body}
+use Rattle.txn_types.specs.declared.message.Node.{Node}
+use Rattle.txn_types.specs.declared.stream.Item.{Item}
 use Rattle.txn_types.specs.declared.txn.Txn.{Txn}
 
 -- the state after the serial outcomes is that of the serial run
@@ -61,11 +64,14 @@ module _ (table : Table) (genesis : State) (chain : List Block) where
 two_parts : (table : Table) (p : ℕ) (es fs : List Entry) (s u : State) → es ≡ fs → s ≡ u → peer_lines table p es s ++ [] ≡ peer_lines table p fs u
 two_parts table p es fs s u e f = append-nil (peer_lines table p es s) ∙ (ap (λ x. peer_lines table p x s) e ∙ ap (peer_lines table p fs) f)
 
-pub serial_part_law : SerialPart
-serial_part_law table genesis items bodies faulty events w p tame said world =
+-- of a peer that is with the chain
+pub part_with_chain : (table : Table) (genesis : State) (items : List Item) (bodies : List Body) (faulty : List Node) (w : World) (p : ℕ) →
     let s = setting_of table genesis items bodies faulty in
-    let all = agreement table genesis items bodies faulty events w tame said world in
-    let one = all.peers p in
+    IsWithChain s p (heard s.rules p (log_of w p)) →
+    (completed_count s w p ≤ length s.chain)
+    × (part_of s p (log_of w p) ≡ serial_part table genesis p (take (completed_count s w p) s.chain))
+part_with_chain table genesis items bodies faulty w p one =
+    let s = setting_of table genesis items bodies faulty in
     let L = heard s.rules p (log_of w p) in
     let c = length (ledger s.rules p L) in (
       one.few,
@@ -74,3 +80,7 @@ serial_part_law table genesis items bodies faulty events w p tame said world =
           (ap reverse one.blocks ∙ ledger_is table genesis s.chain c one.few)
           (one.state ∙ state_is table genesis s.chain c one.few),
     )
+
+pub serial_part_law : SerialPart
+serial_part_law table genesis items bodies faulty events w p tame said world =
+    part_with_chain table genesis items bodies faulty w p ((agreement table genesis items bodies faulty events w tame said world).peers p)

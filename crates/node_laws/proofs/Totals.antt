@@ -14,11 +14,12 @@ use Rattle.node_defs.specs.Log.{Letter, Log, first_newblocks, is_good, newblock_
 use Rattle.node_defs.specs.Position.{Work}
 use Rattle.node_defs.specs.Rules.{IsLocal, Rules, in_force}
 use Rattle.node_defs.specs.Same.{same_block, same_list, same_number}
-use Rattle.node_defs.specs.Sent.{batches, run_order, sent, sent_in, sent_of, sent_upto, sent_with}
+use Rattle.node_defs.specs.Sent.{batches, run_order, sent_in, sent_of, sent_upto, sent_with}
 use Rattle.node_laws.proofs.Batches.{batches_bound, sent_few}
-use Rattle.node_laws.proofs.Counting.{Has, keep_member}
+use Rattle.node_laws.proofs.Counting.{keep_member}
 use Rattle.node_laws.proofs.Growing.{LedgerGrows, after_keeps, ledger_grows, stays_open}
 use Rattle.node_laws.proofs.Whole.{carried, carries}
+use Rattle.node_laws.specs.Fed.{Has, IsOf, total}
 use Rattle.node_laws.specs.OneWorld.{txns_carried, txns_carried_by}
 use Rattle.oxii_defs.specs.Lines.{Entry}
 use Rattle.txn_types.specs.declared.block.Block.{Block}
@@ -128,10 +129,6 @@ good_carries rules n e x h = from e.from e.message h
         let r = and_parts (nat_lt o (length rules.table.orderers)) (m.block.number == n) p.0 in
         (eqb-true m.block.number n r.1, ap (λ (z : ℕ × Block). length z.1.txns) q.1)
 
--- each entry of the log is in the pool
-abbrev pub IsOf : List Letter → Log → Type 0
-IsOf pool L = (x : Letter) → Has x L → Has x pool
-
 accepted_fits : (rules : Rules) (n : ℕ) (tip : List ℕ) (L : Log) (pool : List Letter) → IsOf pool L → (b : Block) → accepted rules n tip L ≡ Some b → length b.txns ≤ of_number n pool
 accepted_fits rules n tip L pool sub b h =
     let one = reached_has same_block rules.table.quorum _ b h in
@@ -187,11 +184,6 @@ sent_at rules l me m e L = one (accepted_at rules me m L) refl
 sent_all : (rules : Rules) → IsLocal rules → (me n : ℕ) (e : Letter) (L : Log) → length (sent_upto rules me n e L) + batches_upto rules me n L ≤ batches_upto rules me n (e ∷ L)
 sent_all rules l me zero e L = omega arith
 sent_all rules l me (suc m) e L = omega (arith, sent_all rules l me m e L, sent_at rules l me m e L, length-append (sent_upto rules me m e L) (sent_in rules me m e L))
-
--- how many COMMITs a peer sent in all
-abbrev pub total : Rules → ℕ → Log → ℕ
-total rules me [] = 0
-total rules me (e ∷ L) = length (sent rules me (e ∷ L)) + total rules me L
 
 total_few : (rules : Rules) → IsLocal rules → (me : ℕ) (L : Log) → total rules me L ≤ batches_upto rules me (length L) L
 total_few rules l me [] = omega arith

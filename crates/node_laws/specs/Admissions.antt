@@ -1,4 +1,4 @@
--- Which requests are admitted, and why the others are not: the rule, by what stands in the table.
+-- Which requests are admitted, and why the others are not: the rule, by what is in the table.
 use Rattle.std.specs.Prelude.{◌≡◌, ◌≤◌, ◌<◌, ◌⊎◌, ◌↔◌, ℕ, List, [], ◌∷◌, length, Some, Result, Ok, Err, slice_get, Contains}
 use Rattle.txn_types.specs.declared.txn.Arg.{Arg}
 use Rattle.txn_types.specs.declared.txn.Arg.TheVariants as arg

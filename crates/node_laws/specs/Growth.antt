@@ -21,14 +21,14 @@ pub record Keeps (x y : Standing) : Type 0 where
   pub agreed : (o : Outcome) → x.agreed ≡ Some o → y.agreed ≡ Some o
   pub believed : (o : Outcome) → x.believed ≡ Some o → y.believed ≡ Some o
 
--- so at each place
+-- so at each position
 abbrev pub KeepAll : List Standing → List Standing → Type 0
 KeepAll [] [] = Unit {0}
 KeepAll (x ∷ xs) (y ∷ ys) = Keeps x y × KeepAll xs ys
 KeepAll [] (y ∷ ys) = ⊥
 KeepAll (x ∷ xs) [] = ⊥
 
--- how the positions of a block stand that is accepted behind m completed blocks
+-- the state of the positions of a block that is accepted after m completed blocks
 abbrev pub standings_at : Rules → ℕ → ℕ → Block → Log → List Standing
 standings_at rules me m b L =
     standings (in_force rules (completed rules me m L)) (work_on rules me m (completed rules me m) L b) (length b.txns) L

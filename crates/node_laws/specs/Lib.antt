@@ -8,3 +8,4 @@ pub mod OneWorld
 pub mod OneText
 pub mod Admissions
 pub mod Named
+pub mod Fed

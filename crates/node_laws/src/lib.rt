@@ -60,7 +60,7 @@ pub fn one_world()
     ensures { OneWorld }
 {}
 
-/// The event `all` ends within a number of turns that the pool tells.
+/// The event `all` ends within a number of turns that the pool gives.
 pub fn all_ends()
     ensures { AllEnds }
 {}

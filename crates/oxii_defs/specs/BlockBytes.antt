@@ -1,4 +1,4 @@
--- The bytes of a block, and its hash. Numbers stand high byte first.
+-- The bytes of a block, and its hash. Numbers have their high byte first.
 use Rattle.std.specs.Prelude.{ℕ, List, [], ◌∷◌, ◌++◌, length, map, Option, Some, None}
 use Rattle.std.specs.List.{flat_map, slice_index_or}
 use Rattle.std.specs.Int.{w32, w64, to_be_bytes}

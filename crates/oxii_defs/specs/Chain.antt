@@ -5,11 +5,11 @@ use Rattle.txn_types.specs.declared.block.Body.{Body}
 use Rattle.oxii_defs.specs.Table.{Table}
 use Rattle.oxii_defs.specs.BlockBytes.{block_hash}
 
--- the hash that stands before block 1
+-- the hash that is before block 1
 abbrev pub no_hash : List ℕ
 no_hash = replicate 32 0
 
--- the blocks of these bodies from number n on, behind this hash
+-- the blocks of these bodies from number n on, after this hash
 abbrev pub chain_from : Table → ℕ → List ℕ → List Body → List Block
 chain_from table n prev [] = []
 chain_from table n prev (body ∷ rest) =

@@ -15,7 +15,7 @@ abbrev pub depends : Kind → Txn → Txn → Bool
 depends Full earlier later = meets earlier.reads later.writes || meets earlier.writes later.reads || meets earlier.writes later.writes
 depends Raw earlier later = meets earlier.writes later.reads
 
--- the places, counted from i, of those that a transaction depends on
+-- the positions, counted from i, of those that a transaction depends on
 abbrev pub preds_from : Kind → Txn → ℕ → List Txn → List ℕ
 preds_from kind t i [] = []
 preds_from kind t i (earlier ∷ rest) = if depends kind earlier t then i ∷ preds_from kind t (suc i) rest else preds_from kind t (suc i) rest

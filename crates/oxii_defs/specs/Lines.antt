@@ -62,7 +62,7 @@ abbrev pub txn_lines : Table → ℕ → List Txn → List Outcome → List ℕ
 txn_lines table i (t ∷ rest) (o ∷ outcomes) = txn_line table i t o ++ txn_lines table (i + 1) rest outcomes
 txn_lines table i _ _ = []
 
--- the names stand in table order
+-- the names are in table order
 abbrev pub config_line : Table → Config → List ℕ
 config_line table c =
     codes "config " ++ app_name table c.app ++ codes " tau " ++ decimal c.tau ++ codes " agents"

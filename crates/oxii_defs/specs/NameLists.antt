@@ -9,7 +9,7 @@ abbrev pub AllDiffer : List Name → Type 0
 AllDiffer [] = Unit {0}
 AllDiffer (x ∷ rest) = (¬ Contains rest x) × AllDiffer rest
 
--- the names stand in the order of their bytes, each once
+-- the names are in the order of their bytes, each once
 abbrev pub AreInOrder : List Name → Type 0
 AreInOrder [] = Unit {0}
 AreInOrder (x ∷ []) = Unit {0}

@@ -1,6 +1,6 @@
 -- The syntax of an operation, as the reader of contracts gives it.
 -- A record is named by its number, since the table numbers the records in byte order of their names.
--- A parameter is named by its place from the left, a local by its place among the visible ones, the oldest first.
+-- A parameter is named by its position from the left, a local by its position among the visible ones, the oldest first.
 use Rattle.std.specs.Prelude.{ℕ, List}
 
 -- the bytes of a name

@@ -12,7 +12,7 @@ pub record Scope : Type 0 where
   pub visible : List Name
   pub turns : ℕ
 
--- the parameter at a place has this kind
+-- the parameter at a position has this kind
 abbrev pub HasKind : List Formal → ℕ → ParamKind → Type 0
 HasKind params i kind = slice_get (map (λ p. p.kind) params) i ≡ Some kind
 

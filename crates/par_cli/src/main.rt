@@ -11,13 +11,15 @@ use std::process::ExitCode;
 use std::thread::Threads;
 use std::{env, io};
 
-// Runs the words of the command line. A command line that isn't UTF-8, or can't be had, is no command.
+// Runs the words of the command line. A command line that isn't UTF-8, or can't be had though there is memory, is no command.
 fn answer<R: Env + Input + Print + AllocGlobal + Threads + Sync>(rt: &R) -> Status
     ensures { CanSay result }
 {
     let alloc = rt.alloc();
-    let Ok(arguments) = env::args(rt) else {
-        return Status::Usage;
+    let arguments = match env::args(rt) {
+        Ok(arguments) => arguments,
+        Err(error) if error.kind() == io::ErrorKind::OutOfMemory => return Status::OutOfMemory,
+        Err(_) => return Status::Usage,
     };
     let Ok(words) = arguments.skip(1).collect::<Vec<String>>(alloc) else {
         return Status::OutOfMemory;

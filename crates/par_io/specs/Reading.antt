@@ -1,4 +1,4 @@
--- What a run of reads took from a source, where the source tells what it has left.
+-- What a run of reads took from a source, where the source says what it has left.
 use Rattle.std.specs.Prelude.{ℕ, ◌<◌, ◌≤◌, List, length}
 use Rattle.std.specs.Io.KnownBytes.{Consumes, IsAtEnd}
 use Rattle.std.specs.declared.option.Option.{Option}

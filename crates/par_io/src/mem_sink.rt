@@ -1,4 +1,4 @@
-//! A sink over memory, which fails in the calls that it is told to and where its room is passed.
+//! A sink over memory, which fails in the listed calls and where its room is passed.
 ghost use Rattle.std.specs.Prelude.{◌≡◌, ◌<◌, ◌≤◌, List, ℕ, Option, Some, length, IfOk};
 ghost use Rattle.std.specs.Io.{WritesAtMost};
 ghost use Rattle.std.specs.Io.KnownBytes.{WriteAppends};

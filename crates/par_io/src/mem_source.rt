@@ -1,4 +1,4 @@
-//! A source over memory, which fails in the calls that it is told to.
+//! A source over memory, which fails in the listed calls.
 ghost use Rattle.std.specs.Prelude.{◌≡◌, ◌<◌, ◌≤◌, List, ℕ, Option, Some, length};
 ghost use Rattle.std.specs.Io.{ReadsAtMost};
 ghost use Rattle.std.specs.Io.KnownBytes.{ReadConsumes};

@@ -9,7 +9,7 @@ use crate::Failed;
 
 /// Where bytes go, a piece at a time.
 pub trait Sink {
-    /// The bytes that were written, where the sink tells them.
+    /// The bytes that were written, where the sink says them.
     ghost written: { Self → Option (List ℕ) };
 
     /// How often it has failed. It never falls.

@@ -10,7 +10,7 @@ use std::alloc::Global;
 
 /// Where bytes come from, a piece at a time.
 pub trait Source {
-    /// The bytes still to come, where the source tells them.
+    /// The bytes still to come, where the source says them.
     ghost rest: { Self → Option (List ℕ) };
 
     /// How often it has failed. It never falls.
@@ -31,7 +31,7 @@ pub enum ReadFail {
     Fault,
     /// The source gave more bytes than the limit before any fault.
     TooLong,
-    /// Memory was wanted and not there.
+    /// Memory ran out.
     OutOfMemory,
 }
 

@@ -8,7 +8,7 @@ use crate::{Failed, Sink};
 use std::io::Write;
 use std::marker::Model;
 
-/// A sink over a writer. It tells the bytes that the writer tells, of a real stream none, and counts each error.
+/// A sink over a writer. It says the bytes that the writer says, of a real stream none, and counts each error.
 #[derive(Drop)]
 pub struct StdSink<W: Write> {
     writer: W,

@@ -8,7 +8,7 @@ use crate::{Failed, Source};
 use std::io::Read;
 use std::marker::Model;
 
-/// A source over a reader. It tells the bytes that the reader tells, of a real stream none, and counts each error.
+/// A source over a reader. It says the bytes that the reader says, of a real stream none, and counts each error.
 #[derive(Drop)]
 pub struct StdSource<R: Read> {
     reader: R,

@@ -3,6 +3,7 @@
 mod bytes;
 mod devices;
 mod gates;
+mod hostile;
 mod lists;
 mod rows;
 mod soak;

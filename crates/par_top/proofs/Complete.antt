@@ -103,7 +103,7 @@ abbrev Reading : Option (List ℕ) → Option (List ℕ) → List ℕ → Type 0
 Reading old new lines X = (prints : Input → List ℕ → Type 0) → HasRead prints old new lines → X
 
 of_document : (command : Command) (old new : Option (List ℕ)) (lines : List ℕ) → Reads command → Prints command old new lines → Reading old new lines ⊥ → ⊥
-of_document (Run workers traced) old new lines reads printed none = none (IsRunText workers traced) printed
+of_document (Run workers traced evident) old new lines reads printed none = none (IsRunText workers traced evident) printed
 of_document Graph old new lines reads printed none = none IsGraphText printed
 of_document (Soak seed txns workers) old new lines reads printed none = reads
 

@@ -12,6 +12,7 @@ use Rattle.input_doc.specs.LawfulInputs.{IsLawfulInput}
 use Rattle.input_doc.proofs.Once.{exactly_one}
 use Rattle.par_words.specs.declared.command.Command.TheVariants.{Run}
 use Rattle.command_text.specs.Traced.{IsTraceText}
+use Rattle.command_text.specs.Evident.{IsEvidenceText}
 use Rattle.par_top.specs.Texts.{IsHeadline}
 use Rattle.par_top.specs.Headline.{IsSerialHeadline, IsTame, IsSerialText}
 
@@ -22,21 +23,28 @@ serial_is input lines lawful printed tame =
     tame_texts input.table (state_of input.genesis) input.items input.limits input.faulty input.schedule lines tame
     (λ bodies. said_by_faulty (setting_of input.table (state_of input.genesis) input.items bodies input.faulty) input.schedule (lawful.schedule (state_of input.genesis) bodies).each) printed
 
-no_trace : (workers : ℕ) (traced : Bool) (input : Input) (lines : List ℕ) → IsTraceText traced workers input lines → traced ≡ false → lines ≡ []
+-- where no trace is asked for there is none
+pub no_trace : (workers : ℕ) (traced : Bool) (input : Input) (lines : List ℕ) → IsTraceText traced workers input lines → traced ≡ false → lines ≡ []
 no_trace workers true input lines is asked = cc
 no_trace workers false input lines is asked = is
 
+pub no_evidence : (evident : Bool) (input : Input) (lines : List ℕ) → IsEvidenceText evident input lines → evident ≡ false → lines ≡ []
+no_evidence true input lines is asked = cc
+no_evidence false input lines is asked = is
+
 -- where the whole text was written, and the input is tame, it is one of serial runs
-pub serial_headline : (workers : ℕ) (traced : Bool) (rest_old rest_new written_old written_new : Option (List ℕ)) → IsHeadline (Run workers traced) rest_old rest_new written_old written_new → IsSerialHeadline traced rest_old rest_new written_old written_new
-serial_headline workers traced rest_old rest_new written_old written_new h =
+pub serial_headline : (workers : ℕ) (traced evident : Bool) (rest_old rest_new written_old written_new : Option (List ℕ)) → IsHeadline (Run workers traced evident) rest_old rest_new written_old written_new → IsSerialHeadline traced evident rest_old rest_new written_old written_new
+serial_headline workers traced evident rest_old rest_new written_old written_new h =
     let printed = h.read.text in record {
       bytes = h.read.document.bytes;
       input = h.read.input;
       text = printed.text;
+      evidence = printed.evidence;
       trace = printed.trace;
       read = h.read.document.read;
       means = h.read.document.means;
       written = subst (Appends written_old written_new) printed.whole h.written;
+      unasked = no_evidence evident h.read.input printed.evidence printed.seen;
       untraced = no_trace workers traced h.read.input printed.trace printed.bursts;
       serial = serial_is h.read.input printed.text ((exactly_one h.read.document.bytes).lawful h.read.input h.read.document.means) printed.world;
     }

@@ -26,7 +26,7 @@ refusal fault = Err fault
 
 -- a command that reads a document
 abbrev pub Reads : Command → Type 0
-Reads (Run workers traced) = Unit {0}
+Reads (Run workers traced evident) = Unit {0}
 Reads Graph = Unit {0}
 Reads (Soak seed txns workers) = ⊥
 

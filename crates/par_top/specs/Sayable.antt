@@ -1,4 +1,4 @@
--- Which statuses can be told.
+-- Which statuses can be answered.
 use Rattle.contract_text.specs.declared.faults.TextFault.{TextFault}
 use Rattle.contract_text.specs.declared.faults.TextFault.TheVariants as text
 use Rattle.doc_forms.specs.declared.fault.DocFault.{DocFault}

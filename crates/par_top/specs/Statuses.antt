@@ -21,12 +21,12 @@ printed_byte b = if (nat_le 97 b && nat_le b 122) || ((nat_le 48 b && nat_le b 5
 abbrev pub key_text : List ℕ → List ℕ
 key_text key = map printed_byte key
 
--- an item in brackets, and a key behind a dot
+-- an item in brackets, and a key after a dot
 abbrev pub step_text : Step → List ℕ
 step_text (Key key) = codes "." ++ key_text key
 step_text (Index i) = codes "[" ++ decimal i ++ codes "]"
 
--- no dot stands before the first key
+-- no dot is before the first key
 abbrev pub first_text : Step → List ℕ
 first_text (Key key) = key_text key
 first_text (Index i) = codes "[" ++ decimal i ++ codes "]"
@@ -80,7 +80,7 @@ text_fault_word (text.Limit at) = codes "limit"
 text_fault_word (text.Double at) = codes "double"
 text_fault_word text.OutOfMemory = []
 
--- the byte where a text's fault stands
+-- the byte where a text's fault is
 abbrev pub byte_of : TextFault → ℕ
 byte_of (text.Syntax at) = at
 byte_of (text.UnknownName at) = at

@@ -26,7 +26,7 @@ pub record HasRead (prints : Input → List ℕ → Type 0) (rest_old rest_new :
 
 -- the text of a command: `run` and `graph` print it of the document that the source had, and `soak` of the input that it makes
 abbrev pub Prints : Command → Option (List ℕ) → Option (List ℕ) → List ℕ → Type 0
-Prints (Run workers traced) rest_old rest_new lines = HasRead (IsRunText workers traced) rest_old rest_new lines
+Prints (Run workers traced evident) rest_old rest_new lines = HasRead (IsRunText workers traced evident) rest_old rest_new lines
 Prints Graph rest_old rest_new lines = HasRead IsGraphText rest_old rest_new lines
 Prints (Soak seed txns workers) rest_old rest_new lines = IsSoakText seed txns lines
 

@@ -20,7 +20,7 @@ pub enum Status {
     Usage,
     /// The document has this fault, which is never one of memory.
     Refused(DocFault),
-    /// Memory was wanted and not there.
+    /// Memory ran out.
     OutOfMemory,
     /// The source failed.
     ReadFault,

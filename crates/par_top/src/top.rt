@@ -1,6 +1,6 @@
 //! The top call.
 
-ghost use Rattle.std.specs.Prelude.{◌≡◌, ◌≤◌, ◌<◌, ◌⊎◌, ◌↔◌, ◌≢◌, Bool, List, ℕ, Some, length, map, string_bytes, IfOk, IfErr};
+ghost use Rattle.std.specs.Prelude.{◌≡◌, ◌≤◌, ◌<◌, ◌⊎◌, ◌↔◌, ◌≢◌, Bool, true, List, ℕ, Some, length, map, string_bytes, IfOk, IfErr};
 ghost use Rattle.par_io.specs.Causes.{Rose};
 ghost use Rattle.input_doc.specs.Inputs.{Input};
 ghost use Rattle.doc_forms.specs.Faults.{Fault};
@@ -13,6 +13,9 @@ ghost use Rattle.par_top.specs.Endings.{Ends, IsNoText};
 ghost use Rattle.par_top.specs.Refusals.{IsReadFault, IsRefusal, IsRefusedFor, Reads, too_long};
 ghost use Rattle.par_top.specs.Texts.{OfCommand, IsHeadline, IsWrittenPart, Prints};
 ghost use Rattle.par_top.specs.Headline.{IsSerialHeadline, document_limit};
+ghost use Rattle.par_top.specs.WholeHeadline.{IsWholeHeadline};
+ghost use Rattle.par_top.specs.CalmHeadline.{IsCalmHeadline};
+ghost use Rattle.par_top.specs.InnocentHeadline.{IsInnocentHeadline};
 
 use crate::document::read_document;
 use crate::{DocFault, Gate, Status};
@@ -37,9 +40,13 @@ fn text_of<R: Threads + Sync, S: Source, G: Gate>(
     ensures unread { Reads command ⊎ (source.new ≡ source.old) }
 {
     match command {
-        Command::Run { workers, trace } => {
+        Command::Run {
+            workers,
+            trace,
+            evidence,
+        } => {
             let input = read_document(alloc, source)?;
-            let text = run_text(rt, alloc, &input, workers, trace, gate)?;
+            let text = run_text(rt, alloc, &input, workers, trace, evidence, gate)?;
             Ok(text)
         }
         Command::Graph => {
@@ -80,7 +87,7 @@ fn run_command<R: Threads + Sync, S: Source, K: Sink, G: Gate>(
     Status::Ok
 }
 
-/// Does what the words say. Over a document that it reads from the source, `run` plays its schedule and writes what each peer that isn't faulty comes to, and `graph` writes its agreed blocks with their graphs. `soak` reads nothing: it plays an input that it makes from a seed, and writes a summary. `--workers` says how many workers a peer has, which changes no byte but those of the trace, and `--trace` adds what ran with each delivery, by which worker.
+/// Does what the words say. Over a document that it reads from the source, `run` plays its schedule and writes what each peer that isn't faulty comes to, and `graph` writes its agreed blocks with their graphs. `soak` reads nothing: it plays an input that it makes from a seed, and writes a summary. `--workers` says how many workers a peer has, which changes no byte but those of the trace, `--evidence` adds who was seen to say two different things, and `--trace` adds what ran with each delivery, by which worker.
 #[tactic(auto, using(crate::proofs::Endings::ended_ok, crate::proofs::Endings::ended_in_part, crate::proofs::Endings::no_usage, crate::proofs::Endings::ended_refused, crate::proofs::Endings::ended_unread, crate::proofs::Endings::sayable_so, crate::proofs::Endings::nothing_so))]
 pub fn run<R: Threads + Sync, S: Source, K: Sink, G: Gate>(
     rt: &R,
@@ -91,9 +98,18 @@ pub fn run<R: Threads + Sync, S: Source, K: Sink, G: Gate>(
     gate: &G,
 ) -> Status
     // The headline, for each number of workers: where few enough nodes are faulty, each peer that isn't printed exactly the blocks that it holds quorums for, with the outcomes of running their transactions one after another, whatever the schedule loses, repeats or reorders. What is said of these lines doesn't name the workers.
-    ensures serial { result ≡ Status.Ok → (workers : ℕ) (traced : Bool) → Says (map string_bytes words.now) (Run workers traced) → IsSerialHeadline traced (S.rest source.old) (S.rest source.new) (K.written sink.old) (K.written sink.new) }
+    ensures serial { result ≡ Status.Ok → (workers : ℕ) (traced evident : Bool) → Says (map string_bytes words.now) (Run workers traced evident) → IsSerialHeadline traced evident (S.rest source.old) (S.rest source.new) (K.written sink.old) (K.written sink.new) }
 
-    // The whole text: of a document that was read to its end, whoever is faulty, with its trace in bursts of these workers, or of the input that a seed makes.
+    // The other half: where besides enough nodes aren't faulty and the schedule has an `all`, each of these peers printed every block of the chain, whatever else is lost, repeated, reordered or said falsely.
+    ensures whole { result ≡ Status.Ok → (workers : ℕ) (traced evident : Bool) → Says (map string_bytes words.now) (Run workers traced evident) → IsWholeHeadline traced evident (S.rest source.old) (S.rest source.new) (K.written sink.old) (K.written sink.new) }
+
+    // The headline of a document that names any number of nodes that stay silent: only nodes that say something of their own in the schedule are counted.
+    ensures calm { result ≡ Status.Ok → (workers : ℕ) (traced evident : Bool) → Says (map string_bytes words.now) (Run workers traced evident) → IsCalmHeadline traced evident (S.rest source.old) (S.rest source.new) (K.written sink.old) (K.written sink.new) }
+
+    // Nobody innocent: where evidence is asked for, no line of it names a node that the document doesn't name faulty, whatever the document and its schedule.
+    ensures innocent { result ≡ Status.Ok → (workers : ℕ) (traced : Bool) → Says (map string_bytes words.now) (Run workers traced true) → IsInnocentHeadline workers traced (S.rest source.old) (S.rest source.new) (K.written sink.old) (K.written sink.new) }
+
+    // The whole text: of a document that was read to its end, whoever is faulty, with the evidence of each peer that isn't faulty and its trace in bursts of these workers, or of the input that a seed makes.
     ensures ok { result ≡ Status.Ok → OfCommand (map string_bytes words.now) (λ command. IsHeadline command (S.rest source.old) (S.rest source.new) (K.written sink.old) (K.written sink.new)) }
 
     // Usage exactly where the words are no command, unless memory is wanted; with such words nothing is touched.

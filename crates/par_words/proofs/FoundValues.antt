@@ -13,9 +13,9 @@ use Rattle.clap.specs.declared.parser.matches.Found.{Found}
 use Rattle.clap.proofs.WalkLemmas.{first_value-rows}
 use Rattle.clap.specs.declared.parser.matches.ValueSource.TheVariants.{DefaultValue}
 use Rattle.clap.specs.declared.builder.value_parser.Reading.TheVariants as how
-use Rattle.par_words.specs.OptionUses.{Use, is_given, uses_in}
+use Rattle.par_words.specs.OptionUses.{Use, uses_in}
 use Rattle.par_words.specs.CommandOptions.{run_options, soak_options, run_app, soak_app, value_in, is_true, IsFound, IsNoneFound, IsRunOf, IsSoakOf}
-use Rattle.par_words.proofs.Walks.{row_for, rows_for, rule_for, rules_for, row_given, at_row_fresh}
+use Rattle.par_words.proofs.Walks.{row_for, rows_for, rule_for, rules_for, at_row_fresh}
 use Rattle.par_words.proofs.Parses.{app_for, parse_ok, parse_err, stray_read}
 
 find_row : (n : Text) (uses : List Use) → find (λ (r : Row). bytes_eq r.id n) (rows_for uses) ≡ option_map row_for (find (λ (u : Use). bytes_eq u.0 n) uses)
@@ -38,20 +38,27 @@ find_snoc : (p : Row → Bool) (xs : List Row) (y : Row) → p y ≡ false → f
 find_snoc p [] y e = ap (λ b. cond b (Some y) None) e
 find_snoc p (x ∷ xs) y e = ap (λ o. cond (p x) (Some x) o) (find_snoc p xs y e)
 
-find_last : (n : Text) (uses : List Use) (y : Row) → bytes_eq y.id n ≡ true → is_given uses n ≡ false
-    → (find (λ (r : Row). bytes_eq r.id n) (rows_for uses ++ y ∷ []) ≡ Some y) × (find (λ (u : Use). bytes_eq u.0 n) uses ≡ None)
-find_last n [] y is e = (ap (λ b. cond b (Some y) None) is, refl)
-find_last n (u ∷ us) y is e = go (bytes_eq u.0 n) e (find_last n us y is)
+-- a row that isn't there yet is found where it is added
+no_row : (n : Text) (rows : List Row) → has_row n rows ≡ false → find (λ (r : Row). bytes_eq r.id n) rows ≡ None
+no_row n [] e = refl
+no_row n (r ∷ rows) e = go (bytes_eq r.id n) e (no_row n rows)
   where
-    go : (b : Bool) → (b || is_given us n) ≡ false
-        → (is_given us n ≡ false → (find (λ (r : Row). bytes_eq r.id n) (rows_for us ++ y ∷ []) ≡ Some y) × (find (λ (u : Use). bytes_eq u.0 n) us ≡ None))
-        → (cond b (Some (row_for u)) (find (λ (r : Row). bytes_eq r.id n) (rows_for us ++ y ∷ [])) ≡ Some y) × (cond b (Some u) (find (λ (u : Use). bytes_eq u.0 n) us) ≡ None)
+    go : (b : Bool) → (b || has_row n rows) ≡ false → (has_row n rows ≡ false → find (λ (x : Row). bytes_eq x.id n) rows ≡ None) → cond b (Some r) (find (λ (x : Row). bytes_eq x.id n) rows) ≡ None
+    go true h rest = cc
+    go false h rest = rest h
+
+find_new : (n : Text) (rows : List Row) (y : Row) → bytes_eq y.id n ≡ true → has_row n rows ≡ false → find (λ (r : Row). bytes_eq r.id n) (rows ++ y ∷ []) ≡ Some y
+find_new n [] y is e = ap (λ b. cond b (Some y) None) is
+find_new n (r ∷ rows) y is e = go (bytes_eq r.id n) e (find_new n rows y is)
+  where
+    go : (b : Bool) → (b || has_row n rows) ≡ false → (has_row n rows ≡ false → find (λ (x : Row). bytes_eq x.id n) (rows ++ y ∷ []) ≡ Some y)
+        → cond b (Some r) (find (λ (x : Row). bytes_eq x.id n) (rows ++ y ∷ [])) ≡ Some y
     go true h rest = cc
     go false h rest = rest h
 
 -- the row of a flag that was not given
-abbrev untraced : Row
-untraced = record { id = codes "trace"; values = codes "false" ∷ []; count = None; source = Some DefaultValue; reading = how.AsWritten }
+abbrev unset : Text → Row
+unset name = record { id = name; values = codes "false" ∷ []; count = None; source = Some DefaultValue; reading = how.AsWritten }
 
 no_default : (name : Text) (rows : List Row) → with_default rows (rule_for (name, true)) ≡ rows
 no_default name rows = go (has_row name rows)
@@ -60,37 +67,54 @@ no_default name rows = go (has_row name rows)
     go true = refl
     go false = refl
 
-abbrev defaulted : List Row → List Row
-defaulted rows = at_row (codes "trace") (walk.more_values DefaultValue (codes "false" ∷ [])) (untraced ∷ []) rows
+abbrev defaulted : Text → List Row → List Row
+defaulted name rows = at_row name (walk.more_values DefaultValue (codes "false" ∷ [])) (unset name ∷ []) rows
 
-flag_default : (uses : List Use) (b : Bool) → is_given uses (codes "trace") ≡ b
-    → with_default (rows_for uses) (rule_for (codes "trace", false)) ≡ cond b (rows_for uses) (rows_for uses ++ untraced ∷ [])
-flag_default uses true e = ap (λ b. cond b (rows_for uses) (defaulted (rows_for uses))) (row_given uses (codes "trace") ∙ e)
-flag_default uses false e =
-    ap (λ b. cond b (rows_for uses) (defaulted (rows_for uses))) (row_given uses (codes "trace") ∙ e)
-    ∙ at_row_fresh (codes "trace") (walk.more_values DefaultValue (codes "false" ∷ [])) (untraced ∷ []) (rows_for uses) (row_given uses (codes "trace") ∙ e)
+abbrev with_flag : Text → List Row → List Row
+with_flag name rows = with_default rows (rule_for (name, false))
 
-abbrev Values : List Use → List Row → Type 0
-Values uses rows = (first_of (codes "workers") rows ≡ value_in uses (codes "workers"))
-    × (is_true (first_of (codes "trace") rows) ≡ is_true (value_in uses (codes "trace")))
+flag_default : (name : Text) (rows : List Row) → with_flag name rows ≡ cond (has_row name rows) rows (rows ++ unset name ∷ [])
+flag_default name rows = go (has_row name rows) refl
+  where
+    go : (b : Bool) → has_row name rows ≡ b → cond b rows (defaulted name rows) ≡ cond b rows (rows ++ unset name ∷ [])
+    go true e = refl
+    go false e = at_row_fresh name (walk.more_values DefaultValue (codes "false" ∷ [])) (unset name ∷ []) rows e
 
-last_values : (uses : List Use) (b : Bool) → is_given uses (codes "trace") ≡ b
-    → Values uses (cond b (rows_for uses) (rows_for uses ++ untraced ∷ []))
-last_values uses true e = (first_row (codes "workers") uses, ap is_true (first_row (codes "trace") uses))
-last_values uses false e =
-    let last = find_last (codes "trace") uses untraced refl e in (
-      ap (λ (o : Option Row). option_and_then (λ (r : Row). slice_get r.values 0) o)
-          (find_snoc (λ (r : Row). bytes_eq r.id (codes "workers")) (rows_for uses) untraced refl) ∙ first_row (codes "workers") uses,
-      ap (λ (o : Option Row). is_true (option_and_then (λ (r : Row). slice_get r.values 0) o)) last.0
-          ∙ sym (ap (λ (o : Option Use). is_true (option_map (λ u. u.1) o)) last.1),
-    )
+abbrev value_of : Option Row → Option Text
+value_of o = option_and_then (λ (r : Row). slice_get r.values 0) o
+
+-- what other options were given stays
+others_stay : (name n : Text) (rows : List Row) → bytes_eq name n ≡ false → first_of n (with_flag name rows) ≡ first_of n rows
+others_stay name n rows apart = ap (first_of n) (flag_default name rows) ∙ go (has_row name rows)
+  where
+    go : (b : Bool) → first_of n (cond b rows (rows ++ unset name ∷ [])) ≡ first_of n rows
+    go true = refl
+    go false = ap value_of (find_snoc (λ (r : Row). bytes_eq r.id n) rows (unset name) apart)
+
+-- and a flag that wasn't given is false
+unset_is_false : (name : Text) (rows : List Row) → bytes_eq name name ≡ true → is_true (first_of name (with_flag name rows)) ≡ is_true (first_of name rows)
+unset_is_false name rows itself = ap (λ rs. is_true (first_of name rs)) (flag_default name rows) ∙ go (has_row name rows) refl
+  where
+    go : (b : Bool) → has_row name rows ≡ b → is_true (first_of name (cond b rows (rows ++ unset name ∷ []))) ≡ is_true (first_of name rows)
+    go true e = refl
+    go false e = ap (λ o. is_true (value_of o)) (find_new name rows (unset name) itself e) ∙ sym (ap (λ o. is_true (value_of o)) (no_row name rows e))
+
+record Values (uses : List Use) (rows : List Row) : Type 0 where
+  workers : first_of (codes "workers") rows ≡ value_in uses (codes "workers")
+  trace : is_true (first_of (codes "trace") rows) ≡ is_true (value_in uses (codes "trace"))
+  evidence : is_true (first_of (codes "evidence") rows) ≡ is_true (value_in uses (codes "evidence"))
+
+flag_values : (uses : List Use) → Values uses (with_flag (codes "evidence") (with_flag (codes "trace") (rows_for uses)))
+flag_values uses =
+    let traced = with_flag (codes "trace") (rows_for uses) in record {
+      workers = others_stay (codes "evidence") (codes "workers") traced refl ∙ others_stay (codes "trace") (codes "workers") (rows_for uses) refl ∙ first_row (codes "workers") uses;
+      trace = ap is_true (others_stay (codes "evidence") (codes "trace") traced refl) ∙ unset_is_false (codes "trace") (rows_for uses) refl ∙ ap is_true (first_row (codes "trace") uses);
+      evidence = unset_is_false (codes "evidence") traced refl ∙ ap is_true (others_stay (codes "trace") (codes "evidence") (rows_for uses) refl) ∙ ap is_true (first_row (codes "evidence") uses);
+    }
 
 run_rows : (uses : List Use) → Values uses (fold with_default (rows_for uses) (rules_for run_options))
 run_rows uses =
-    subst (Values uses)
-    (sym (ap (λ rows. with_default rows (rule_for (codes "trace", false))) (no_default (codes "workers") (rows_for uses))
-    ∙ flag_default uses (is_given uses (codes "trace")) refl))
-    (last_values uses (is_given uses (codes "trace")) refl)
+    subst (Values uses) (sym (ap (λ rows. with_flag (codes "evidence") (with_flag (codes "trace") rows)) (no_default (codes "workers") (rows_for uses)))) (flag_values uses)
 
 built_run : built run_app ≡ app_for (codes "run") run_options
 built_run = refl
@@ -103,8 +127,9 @@ run_found found words is =
     let values = run_rows got.0 in record {
       uses = got.0;
       gives = got.1;
-      workers = first_value-rows found (codes "workers") ∙ (ap (first_of (codes "workers")) same ∙ values.0);
-      trace = ap is_true (first_value-rows found (codes "trace") ∙ ap (first_of (codes "trace")) same) ∙ values.1;
+      workers = first_value-rows found (codes "workers") ∙ (ap (first_of (codes "workers")) same ∙ values.workers);
+      trace = ap is_true (first_value-rows found (codes "trace") ∙ ap (first_of (codes "trace")) same) ∙ values.trace;
+      evidence = ap is_true (first_value-rows found (codes "evidence") ∙ ap (first_of (codes "evidence")) same) ∙ values.evidence;
     }
 
 -- on words that it refuses, or one of which is stray

@@ -11,12 +11,20 @@ use txn_types::OutOfMemory;
 /// What the program is asked to do.
 #[derive(Clone, Copy, Debug, PartialEq, Eq)]
 pub enum Command {
-    /// Runs a document with this number of workers, and prints what each peer comes to, and what ran where it is traced.
-    Run { workers: u8, trace: bool },
+    /// Runs a document with this number of workers, and prints what each peer comes to, who was seen to say two different things where evidence is asked for, and what ran where it is traced.
+    Run {
+        workers: u8,
+        trace: bool,
+        evidence: bool,
+    },
     /// Prints the agreed blocks of a document, with what each transaction depends on.
     Graph,
     /// Runs an input that is made from this seed, with so many transactions and workers, and prints a summary of it.
-    Soak { seed: u16, txns: u16, workers: u8 },
+    Soak {
+        seed: u16,
+        txns: u16,
+        workers: u8,
+    },
 }
 
 // `graph` has no options.

@@ -1,13 +1,13 @@
 //! The options of a command, read with clap.
 
-ghost use Rattle.std.specs.Prelude.{◌≡◌, ◌≢◌, ⊤, None, true, map, string_bytes, IfOk, MatchOption, MatchResult};
+ghost use Rattle.std.specs.Prelude.{◌≡◌, ◌≢◌, ⊤, None, true, false, map, string_bytes, IfOk, MatchOption, MatchResult};
 ghost use Rattle.std.specs.List.{list_any};
-ghost use Rattle.clap.specs.Words.{app_of, found_of, is_simple, is_simple_and_free};
+ghost use Rattle.clap.specs.Words.{app_of, found_of, is_simple, is_simple_and_free, rule_of};
 ghost use Rattle.par_words.specs.OptionUses.{is_stray};
-ghost use Rattle.par_words.specs.CommandOptions.{bare_app, IsFound, IsNoneFound};
+ghost use Rattle.par_words.specs.CommandOptions.{bare_app, valued_rule, IsFound, IsNoneFound};
 
 use clap::error::ErrorKind;
-use clap::{ArgMatches, Command};
+use clap::{Arg, ArgAction, ArgMatches, Command};
 use std::alloc::Global;
 use txn_types::OutOfMemory;
 
@@ -37,6 +37,14 @@ pub fn bare_command<'a>(alloc: Global, name: &'a str) -> Command<'a>
         .no_binary_name(true)
         .disable_help_flag(true)
         .disable_version_flag(true)
+}
+
+/// An option with a value.
+pub fn valued<'a>(alloc: Global, name: &'a str) -> Arg<'a>
+    ensures rule { rule_of result ≡ valued_rule name.now }
+    ensures global { result.global ≡ false }
+{
+    Arg::new(alloc, name).long(name).action(ArgAction::Set)
 }
 
 // Each of clap's faults but want of memory is one of the words.

@@ -1,25 +1,17 @@
 //! The words of `soak`.
 
-ghost use Rattle.std.specs.Prelude.{ℕ, ◌≡◌, ◌∷◌, None, false, codes, map, option_map, string_bytes, IfOk, MatchOption};
+ghost use Rattle.std.specs.Prelude.{ℕ, ◌≡◌, ◌∷◌, None, codes, map, option_map, string_bytes, IfOk, MatchOption};
 ghost use Rattle.par_words.specs.OptionUses.{uses_in};
-ghost use Rattle.clap.specs.Words.{app_of, found_of, rule_of};
+ghost use Rattle.clap.specs.Words.{app_of, found_of};
 ghost use Rattle.par_words.specs.Words.{Says, IsCommand, IsSeed, IsNumberOfTxns};
-ghost use Rattle.par_words.specs.CommandOptions.{soak_options, soak_app, IsSoakOf, valued_rule, Writes};
+ghost use Rattle.par_words.specs.CommandOptions.{soak_options, soak_app, IsSoakOf, Writes};
 
 use crate::command::Command;
 use crate::number::{number, workers_of};
-use crate::options::{bare_command, find};
-use clap::{Arg, ArgAction, ArgMatches};
+use crate::options::{bare_command, find, valued};
+use clap::ArgMatches;
 use std::alloc::{AllocError, Global};
 use txn_types::OutOfMemory;
-
-// An option with a value.
-fn valued<'a>(alloc: Global, name: &'a str) -> Arg<'a>
-    ensures rule { rule_of result ≡ valued_rule name.now }
-    ensures global { result.global ≡ false }
-{
-    Arg::new(alloc, name).long(name).action(ArgAction::Set)
-}
 
 fn soak_command<'a>(alloc: Global) -> Result<clap::Command<'a>, AllocError>
     ensures { IfOk result (λ c. app_of c ≡ soak_app) }
@@ -55,7 +47,7 @@ fn soak_matches<'a>(
     find(command, words)
 }
 
-/// The command that the word `soak` and these words behind it are, if they are one.
+/// The command that the word `soak` and these words after it are, if they are one.
 pub fn read_soak(alloc: Global, words: &[String]) -> Result<Option<Command>, OutOfMemory>
     ensures { IfOk result (λ command. MatchOption command (¬ IsCommand (codes "soak" ∷ map string_bytes words.now)) (Says (codes "soak" ∷ map string_bytes words.now))) }
 {

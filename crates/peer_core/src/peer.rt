@@ -10,6 +10,7 @@ ghost use Rattle.node_defs.specs.Log.{Log};
 ghost use Rattle.node_defs.specs.Ledger.{halt, heard, ledger, ledger_state};
 ghost use Rattle.node_defs.specs.Rules.{in_force};
 ghost use Rattle.node_defs.specs.Sent.{sent};
+ghost use Rattle.evidence_marks.specs.Evidence.{IsEvidence};
 ghost use Rattle.hash_ledger.specs.Halts.{IsLawfulSplit, halted_of};
 ghost use Rattle.hash_ledger.specs.Ledgers.{IsLawfulEntry, completed_of};
 ghost use Rattle.peer_laws.specs.Notes.{note_of};
@@ -21,6 +22,7 @@ ghost use Rattle.peer_turns.specs.Traces.{AreTraced};
 
 use crate::took::Took;
 use crate::voters::all_peers;
+use evidence_marks::Evidence;
 use hash_ledger::Ledger;
 use newblock_quorum::Inbox;
 use peer_laws::Note;
@@ -151,7 +153,7 @@ impl<'t> Peer<'t> {
         &self.desk.ledger
     }
 
-    /// The state behind them.
+    /// The state after them.
     pub fn state(&self) -> &Values
         ensures kept { result.now ≡ self.now.state }
         ensures values { length result.now ≡ length self.now.table.records }
@@ -166,6 +168,17 @@ impl<'t> Peer<'t> {
         ensures halt { (genesis : State) (L : Log) → StandsFor self.now genesis L → halted_of result ≡ halt (rules_for self.now genesis) self.now.me L }
     {
         self.desk.halted.as_ref()
+    }
+
+    /// Who was seen to say two different things.
+    pub fn evidence(&self) -> Evidence<'_>
+        ensures kept { (result.orderers.now ≡ self.now.inbox.marks) × (result.agents.now ≡ self.now.book.marks) }
+        ensures evidence { (genesis : State) (L : Log) → StandsFor self.now genesis L → IsEvidence (rules_for self.now genesis) self.now.me (heard (rules_for self.now genesis) self.now.me L) result.orderers.now result.agents.now }
+    {
+        Evidence {
+            orderers: self.desk.inbox.evidence(),
+            agents: self.desk.book.evidence(),
+        }
     }
 
     /// The agents of an application that are in force at the next block.

@@ -4,7 +4,7 @@ use Rattle.std.specs.List.{list_all}
 use Rattle.std.proofs.Common.{◌∙◌, ap, arith}
 use Rattle.node_laws.proofs.Growing.{ledger_grows, stays_open, after_keeps, completed_few, AllKnown, all_known}
 use Rattle.node_laws.proofs.Settle.{beliefs_at}
-use Rattle.peer_laws.proofs.Unopened.{length_standings}
+use Rattle.node_laws.proofs.Standings.{length_standings}
 use Rattle.peer_laws.proofs.Turn.{sent_is, did_run_is}
 use Rattle.peer_laws.proofs.Steps.{work_from}
 use Rattle.known_defs.specs.Known.{txn_at}

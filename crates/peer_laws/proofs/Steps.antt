@@ -9,7 +9,8 @@ use Rattle.std.proofs.lemmas.List.{get_or_past}
 use Rattle.node_laws.proofs.Growing.{StaysOpen, standings_keep, ledger_grows, stays_open, after_keeps}
 use Rattle.node_laws.proofs.Settle.{beliefs_at, front, length_beliefs, push_same}
 use Rattle.node_laws.proofs.AgreeSent.{held_all, order_ran, keep_at}
-use Rattle.peer_laws.proofs.Unopened.{said_is, no_order, length_standings, nothing_believed, unrun}
+use Rattle.node_laws.proofs.Standings.{length_standings}
+use Rattle.peer_laws.proofs.Unopened.{said_is, no_order, nothing_believed, unrun}
 use Rattle.peer_laws.proofs.Turn.{ran_is, did_run_is}
 use Rattle.oxii_defs.specs.State.{contains}
 use Rattle.known_defs.specs.Known.{no_outcome, txn_at}
@@ -17,7 +18,7 @@ use Rattle.node_defs.specs.Ledger.{all_standings, completed, ledger_state, accep
 use Rattle.node_defs.specs.Log.{Letter, Log}
 use Rattle.node_defs.specs.Position.{Standing, Work, ballots, is_agent, standing, standings}
 use Rattle.node_defs.specs.Rules.{IsLocal, Rules, in_force}
-use Rattle.node_defs.specs.Sent.{did_run, held, is_cut, newly_ran, no_standing, run_order, vote_on}
+use Rattle.node_defs.specs.Sent.{did_run, held, newly_ran, no_standing, run_order, vote_on}
 use Rattle.node_laws.specs.Growth.{KeepAll}
 use Rattle.oxii_defs.specs.Lines.{Entry}
 use Rattle.peer_laws.specs.Turns.{InWork, agreed_in, force_at, open_at, open_with, said, shown, shown_one, taken_up, vote_of, votes_behind, votes_with, work_at}

@@ -7,7 +7,7 @@ use Rattle.node_laws.proofs.Growing.{StaysOpen}
 use Rattle.node_laws.proofs.Settle.{beliefs_at, front, believed_is, push_same}
 use Rattle.node_laws.proofs.Batches.{old_batches}
 use Rattle.node_laws.proofs.AgreeSent.{order_ran}
-use Rattle.peer_laws.proofs.Unopened.{standing_at}
+use Rattle.node_laws.proofs.Standings.{standing_at}
 use Rattle.known_defs.specs.Known.{knows_all, txn_at}
 use Rattle.node_defs.specs.Ledger.{all_standings}
 use Rattle.node_defs.specs.Log.{Letter, Log, votes_in}

@@ -1,10 +1,11 @@
 -- Before a block is accepted its ballots are the votes heard, and nothing of it is known
-use Rattle.std.specs.Prelude.{ℕ, ◌<◌, ◌≤◌, get_or, ◌≡◌, Bool, true, false, ◌&&◌, cond, [], ◌∷◌, ◌++◌, Option, Some, None, zero, suc, refl, length}
+use Rattle.std.specs.Prelude.{ℕ, get_or, ◌≡◌, Bool, true, false, ◌&&◌, cond, [], ◌∷◌, ◌++◌, Option, Some, None, zero, suc, refl, length}
 use Rattle.std.proofs.Common.{sym, ◌∙◌, ap, arith, ⊎_elim}
 use Rattle.std.proofs.lemmas.Bool.{true≢false, cases_lt}
-use Rattle.std.proofs.lemmas.List.{length_push, get_or_append_left, get_or_push, get_or_past}
+use Rattle.std.proofs.lemmas.List.{get_or_past}
 use Rattle.node_laws.proofs.Growing.{StaysOpen}
 use Rattle.node_laws.proofs.Settle.{beliefs_at, front, length_beliefs}
+use Rattle.node_laws.proofs.Standings.{length_standings, standing_at}
 use Rattle.known_defs.specs.Known.{knows_all, txn_at}
 use Rattle.node_defs.specs.Log.{Letter, Log, votes_in}
 use Rattle.node_defs.specs.Position.{Standing, Work, agreed, ballots, is_agent, own_outcome, ran, standing, standings}
@@ -19,23 +20,6 @@ not_before w op e L h = one (w.opens L) refl
     one : (b : Bool) → w.opens L ≡ b → w.opens L ≡ false
     one true q = absurd (true≢false (sym (op e L q) ∙ h))
     one false q = q
-
-pub length_standings : (rules : Rules) (w : Work) (L : Log) (n : ℕ) → length (standings rules w n L) ≡ n
-length_standings rules w L zero = refl
-length_standings rules w L (suc n) = omega (arith, length_push (standings rules w n L) (standing rules w n (standings rules w n) L), length_standings rules w L n)
-
-pub standing_at : (rules : Rules) (w : Work) (L : Log) (n t : ℕ) → t < n → get_or (standings rules w n L) t no_standing ≡ standing rules w t (standings rules w t) L
-standing_at rules w L zero t h = absurd (omega arith)
-standing_at rules w L (suc n) t h = ⊎_elim (λ e. inside (standing_at rules w L n t) e) (λ e. last e) (cases_lt t n)
-  where
-    y : Standing
-    y = standing rules w n (standings rules w n) L
-
-    inside : (t < n → get_or (standings rules w n L) t no_standing ≡ standing rules w t (standings rules w t) L) → t < n → get_or (standings rules w n L ++ y ∷ []) t no_standing ≡ standing rules w t (standings rules w t) L
-    inside more e = get_or_append_left (standings rules w n L) (y ∷ []) no_standing t (omega (arith, length_standings rules w L n)) ∙ more e
-
-    last : n ≤ t → get_or (standings rules w n L ++ y ∷ []) t no_standing ≡ standing rules w t (standings rules w t) L
-    last e = let k : n ≡ t = omega arith in get_or_push (standings rules w n L) y no_standing t (length_standings rules w L n ∙ k) ∙ ap (λ j. standing rules w j (standings rules w j) L) k
 
 never_ran : (a k : Bool) → (a && (false && k)) ≡ false
 never_ran true k = refl

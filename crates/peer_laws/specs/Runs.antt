@@ -14,7 +14,7 @@ pub record BlockRuns : Type 0 where
   pub txns : List Txn
   pub positions : List ℕ
 
--- a block is listed where a position of it ran; the last one stands first
+-- a block is listed where a position of it ran; the last one is first
 abbrev pub listed : ℕ → List Txn → List ℕ → List BlockRuns
 listed n txns [] = []
 listed n txns (t ∷ before) = record { n = n; txns = txns; positions = reverse (t ∷ before) } ∷ []

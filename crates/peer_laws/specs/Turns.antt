@@ -26,15 +26,15 @@ abbrev pub said : Rules → ℕ → ℕ → ℕ → Log → List (ℕ × Outcome
 said rules me n t [] = []
 said rules me n t (e ∷ L) = votes_in rules me n t e ++ said rules me n t L
 
--- the rules in force behind the first m blocks
+-- the rules in force after the first m blocks
 abbrev pub force_at : Rules → ℕ → ℕ → Log → Rules
 force_at rules me m L = in_force rules (completed rules me m L)
 
--- the block behind the first m as the peer works on it
+-- the block after the first m as the peer works on it
 abbrev pub work_at : Rules → ℕ → ℕ → Log → Block → Work
 work_at rules me m L b = work_on rules me m (completed rules me m) L b
 
--- the votes on position t of the block behind the first m: once it is accepted, with this peer's own
+-- the votes on position t of the block after the first m: once it is accepted, with this peer's own
 abbrev pub votes_with : Rules → ℕ → ℕ → ℕ → Log → Option Block → List (ℕ × Outcome)
 votes_with rules me m t L None = said rules me (suc m) t L
 votes_with rules me m t L (Some b) =
@@ -42,7 +42,7 @@ votes_with rules me m t L (Some b) =
     then ballots (force_at rules me m L) (work_at rules me m L b) t (standings (force_at rules me m L) (work_at rules me m L b) t) L
     else said rules me (suc m) t L
 
--- the votes on position t of the block behind the first m
+-- the votes on position t of the block after the first m
 abbrev pub votes_behind : Rules → ℕ → ℕ → ℕ → Log → List (ℕ × Outcome)
 votes_behind rules me m t L = votes_with rules me m t L (accepted_at rules me m L)
 
@@ -61,11 +61,11 @@ open_with rules me m L (Some b) = Some (record {
   held = reverse (map (vote_on (all_standings (force_at rules me m L) (work_at rules me m L b) L)) (held (force_at rules me m L) (work_at rules me m L b) (run_order (force_at rules me m L) (work_at rules me m L b) L)));
 })
 
--- the block behind the first m as it is kept
+-- the block after the first m as it is kept
 abbrev pub open_at : Rules → ℕ → ℕ → Log → Option InWork
 open_at rules me m L = open_with rules me m L (accepted_at rules me m L)
 
--- the block in work before this entry: as it stood, or new
+-- the block in work before this entry: as it was, or new
 abbrev pub taken_up : Block → Option InWork → InWork
 taken_up b None = record { block = b; known = replicate (length b.txns) None; held = [] }
 taken_up b (Some o) = o

@@ -3,7 +3,8 @@
 //! An answer is a note, then `; runs 1 1 3` for each block of which positions ran, then `; sends 1 1=6,4` for each COMMIT, whose
 //! votes are written as in messages.
 //! What it holds are the blocks of its ledger, each with its hash, its configuration and an outcome for each transaction, the value
-//! of each record, and `halted 1 2 writes [2] ran 3 voted 7` for position 2 of block 1. Here applications, agents and records are numbers from 0.
+//! of each record, `halted 1 2 writes [2] ran 3 voted 7` for position 2 of block 1, and its evidence: `evidence o3 1` where orderer 3
+//! sent two blocks with number 1, `evidence p2 1 4` where peer 2 voted two outcomes for position 4 of block 1. Here applications, agents and records are numbers from 0.
 
 use peer_core::{BlockSpans, Peer, Took};
 use std::alloc::{AllocError, Global};
@@ -149,6 +150,34 @@ fn push_halted(alloc: Global, text: &mut String, split: &Split) -> Result<(), Al
     text.push_str("\n")
 }
 
+// Who said two different things about what.
+fn push_mark(
+    alloc: Global,
+    text: &mut String,
+    kind: &str,
+    who: u8,
+    about: &[u64],
+) -> Result<(), AllocError> {
+    text.push_str("evidence ")?;
+    push_number(alloc, text, kind, who as u64 + 1)?;
+    for number in about {
+        push_number(alloc, text, " ", *number)?;
+    }
+    text.push_str("\n")
+}
+
+fn push_evidence(alloc: Global, text: &mut String, peer: &Peer) -> Result<(), AllocError> {
+    let evidence = peer.evidence();
+    for mark in evidence.orderers.as_slice() {
+        push_mark(alloc, text, "o", mark.orderer, &[mark.n])?;
+    }
+    for mark in evidence.agents.as_slice() {
+        let position = mark.t as u64 + 1;
+        push_mark(alloc, text, "p", mark.agent, &[mark.n, position])?;
+    }
+    Ok(())
+}
+
 /// What a peer holds.
 pub fn push_peer(alloc: Global, text: &mut String, me: u8, peer: &Peer) -> Result<(), AllocError> {
     let ledger = peer.ledger();
@@ -162,8 +191,8 @@ pub fn push_peer(alloc: Global, text: &mut String, me: u8, peer: &Peer) -> Resul
     text.push_str("state ")?;
     push_shown(alloc, text, &peer.state().as_slice())?;
     text.push_str("\n")?;
-    match peer.halted() {
-        Some(split) => push_halted(alloc, text, split),
-        None => Ok(()),
+    if let Some(split) = peer.halted() {
+        push_halted(alloc, text, split)?;
     }
+    push_evidence(alloc, text, peer)
 }

@@ -18,7 +18,7 @@ abbrev pub none_left : List Bool → List (Option Outcome) → List (Option Outc
 none_left own before after t zero = true
 none_left own before after t (suc u) = not_left own before after t u && none_left own before after t u
 
--- whether a cut stands behind t, once those up to t have run
+-- whether a cut is after t, once those up to t have run
 abbrev pub cut_behind : Kind → List Txn → List Bool → List (Option Outcome) → List (Option Outcome) → ℕ → Bool
 cut_behind kind txns own before after t = other_app_follows t (txn_at txns t).app (graph_of kind txns) txns || none_left own before after t (length own)
 

@@ -14,7 +14,7 @@ pub record IsShort (spans : List Span) : Type 0 where
   pub few : length spans ≤ 256
   pub stamps : All IsLow spans
 
--- each of the first spans put at its place among the second
+-- each of the first spans put at its position among the second
 abbrev pub put_spans : List trace.Span → List trace.Span → List trace.Span
 put_spans [] all = all
 put_spans (s ∷ rest) all = put_span s (put_spans rest all)

@@ -8,7 +8,7 @@ use Rattle.vote_book.specs.declared.ballot.VotePut.{VotePut}
 use Rattle.vote_book.specs.declared.ballot.VotePut.TheVariants.{Counted, Repeat, Stranger}
 use Rattle.vote_book.specs.Puts.{Cast, cast_of, answer_to_vote, voter_of, cast_on}
 
--- these puts, behind the votes of a message
+-- these puts, after the votes of a message
 abbrev pub with_casts : Node → ℕ → List Vote → List Cast → List Cast
 with_casts from n [] puts = puts
 with_casts from n (v ∷ rest) puts = with_casts from n rest (cast_of from n v.t v.outcome ∷ puts)
@@ -29,7 +29,7 @@ abbrev pub own_casts : ℕ → ℕ → ℕ → Bool → Option Outcome → Optio
 own_casts me n t own before None = []
 own_casts me n t own before (Some o) = if own && not (is_some before) then cast_of (Peer me) n t o ∷ [] else []
 
--- its votes on the first t positions, behind these puts
+-- its votes on the first t positions, after these puts
 abbrev pub own_upto : ℕ → ℕ → List Bool → List (Option Outcome) → List (Option Outcome) → ℕ → List Cast → List Cast
 own_upto me n own before after zero puts = puts
 own_upto me n own before after (suc t) puts = own_casts me n t (get_or own t false) (get_or before t None) (get_or after t None) ++ own_upto me n own before after t puts

@@ -59,7 +59,7 @@ fn hold_one(
     Ok(())
 }
 
-/// Whether a cut stands behind `t`.
+/// Whether a cut is after `t`.
 fn is_cut(block: &Block, graph: &Graph, own: &Own, before: &Known, after: &Known, t: usize) -> bool
     requires few { length block.now.txns ≤ 256 }
     requires graph { IsGraphOf block.now.txns graph.now }

@@ -24,7 +24,7 @@ fn place_of(spans: &[Span], t: u16) -> usize
     spans.len()
 }
 
-/// Puts a span at its place by position.
+/// Puts a span where it belongs by position.
 fn put(spans: &mut Spans, span: Span) -> Result<(), OutOfMemory>
     ensures { OnOk result (map span_of spans.new ≡ put_span (span_of span) (map span_of spans.old)) }
 {
@@ -46,7 +46,7 @@ fn raise(span: Span, by: u64) -> Span
     }
 }
 
-/// Puts each of these spans at its place by position, with its stamps raised.
+/// Puts each of these spans where it belongs by position, with its stamps raised.
 fn put_each(all: &mut Spans, spans: &mut Spans, by: u64) -> Result<(), OutOfMemory>
     requires by { by ≤ 512 }
     requires short { IsShort spans.old }

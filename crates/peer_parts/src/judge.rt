@@ -1,4 +1,4 @@
-//! How a block stands: what is agreed, and whether it is split, waits or is done.
+//! The state of a block: what is agreed, and whether it is split, waits or is done.
 
 ghost use Rattle.std.specs.Prelude.{◌≡◌, ◌<◌, ◌≤◌, ◌&&◌, ◌++◌, ◌∷◌, [], not, ℕ, List, Option, Bool, true, false, is_some, length, get_or, take, drop, map, unwrap_or, option_copied, Some, None, IfOk, IfSome, OnOk};
 ghost use Rattle.std.specs.List.{list_all};

@@ -1,4 +1,4 @@
-//! Tables of what one peer answers to each message, and of what it holds behind them.
+//! Tables of what one peer answers to each message, and of what it holds after them.
 #![tactic(auto)]
 
 #[cfg(test)]

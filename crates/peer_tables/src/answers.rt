@@ -1,4 +1,4 @@
-//! A peer that is handed messages one after another.
+//! A peer that gets messages one after another.
 
 ghost use Rattle.std.specs.Prelude.{◌≡◌, ◌<◌, length, IfOk};
 ghost use Rattle.std.specs.List.{All};
@@ -59,8 +59,8 @@ fn heard<'t, R: Threads + Sync>(
     Ok(peer)
 }
 
-/// What this peer of a document answers to the message of each row, and what it holds behind them.
-/// A row is `MESSAGE => ANSWER`, of which the answer isn't looked at; behind the rows stands what begins with `peer `.
+/// What this peer of a document answers to the message of each row, and what it holds after them.
+/// A row is `MESSAGE => ANSWER`, of which the answer isn't looked at; after the rows is what begins with `peer `.
 pub fn answered<R: Threads + Sync>(
     rt: &R,
     alloc: Global,
@@ -79,7 +79,7 @@ pub fn answered<R: Threads + Sync>(
     Ok(text)
 }
 
-/// What is in force of an application at the first peer of a document, behind the messages of these rows.
+/// What is in force of an application at the first peer of a document, after the messages of these rows.
 pub fn in_force<R: Threads + Sync>(
     rt: &R,
     alloc: Global,

@@ -1,4 +1,4 @@
-//! Tables of messages to one peer, with what it answers to each and what it holds behind them.
+//! Tables of messages to one peer, with what it answers to each and what it holds after them.
 #![tactic(auto)]
 
 mod answers;

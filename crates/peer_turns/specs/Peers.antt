@@ -25,7 +25,7 @@ use Rattle.peer_work.specs.Openings.{IsWellOpened}
 use Rattle.peer_work.specs.Completing.{forced_by, outcomes_in}
 use Rattle.peer_turns.specs.declared.desk.Desk.{Desk}
 
--- what a peer keeps: its table and number, the counted NEWBLOCKs and votes, the completed blocks, the state and what is in force behind them, the block in work, and its halt
+-- what a peer keeps: its table and number, the counted NEWBLOCKs and votes, the completed blocks, the state and what is in force after them, the block in work, and its halt
 pub record KeptPeer : Type 0 where
   pub table : Table
   pub me : ℕ

@@ -14,6 +14,7 @@ use Rattle.node_defs.specs.Programs.{rules_of}
 use Rattle.node_defs.specs.Log.{Letter, Log}
 use Rattle.node_defs.specs.Ledger.{ledger_state, ledger, split, is_split, heard}
 use Rattle.node_defs.specs.World.{count_from}
+use Rattle.evidence_marks.specs.Evidence.{IsEvidence}
 use Rattle.newblock_quorum.specs.Newblocks as inbox
 use Rattle.vote_book.specs.Puts as casts
 use Rattle.vote_book.specs.Puts.{Cast, cast_on}
@@ -73,16 +74,17 @@ pub record MidwayAt (workers : ℕ) (genesis : State) (me m : ℕ) (e : Letter) 
   pub own_are : IfSome p.work (λ o. IsOwn (in_force (rules_for p genesis) (done_of p)) me o.block.txns o.own)
   pub traced : AreTraced p.table.kind workers (runs_upto (rules_for p genesis) me m e K) spans
 
--- behind it
+-- after it
 pub record EndedAt (workers : ℕ) (genesis : State) (me : ℕ) (e : Letter) (K : Log) (p : KeptPeer) (sent : List Commit) (spans : List BlockSpans) : Type 0 where
   pub me_is : p.me ≡ me
   pub state_is : values.state_of p.state ≡ ledger_state (rules_for p genesis) (done_of p)
   pub force_is : IsForce (in_force (rules_for p genesis) (done_of p)) p.force
   pub leaves : Left (rules_for p genesis) me e K (done_of p) sent (option_map halt_of p.halted)
+  pub evidence : IsEvidence (rules_for p genesis) me (e ∷ K) p.inbox.marks p.book.marks
   pub traced : is_split (rules_for p genesis) me (heard (rules_for p genesis) me K) ≡ false → AreTraced p.table.kind workers (runs (rules_for p genesis) me (e ∷ K)) spans
   pub parts : p.halted ≡ None → Parts p genesis me (e ∷ K)
 
--- behind a turn: midway with one block more, or at the end
+-- after a turn: midway with one block more, or at the end
 abbrev pub Turned : ℕ → State → ℕ → ℕ → Letter → Log → Bool → KeptPeer → List Commit → List BlockSpans → Type 0
 Turned workers genesis me m e K true p sent spans = MidwayAt workers genesis me (suc m) e K p sent spans
 Turned workers genesis me m e K false p sent spans = EndedAt workers genesis me e K p sent spans
@@ -108,6 +110,7 @@ pub record StandsOn (p : KeptPeer) (genesis : State) (K : Log) : Type 0 where
   pub blocks : done_of p ≡ ledger (rules_for p genesis) p.me K
   pub force_is : IsForce (in_force (rules_for p genesis) (done_of p)) p.force
   pub halted_is : option_map halt_of p.halted ≡ split (rules_for p genesis) p.me K
+  pub evidence : IsEvidence (rules_for p genesis) p.me K p.inbox.marks p.book.marks
   pub parts : p.halted ≡ None → Parts p genesis p.me K
 
 -- a peer stands for its log

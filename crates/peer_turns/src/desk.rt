@@ -7,7 +7,7 @@ use peer_work::Opened;
 use txn_types::{Split, Values};
 use vote_book::Book;
 
-/// What peer `me` keeps of its log: the counted NEWBLOCKs and votes, the completed blocks, the state and what is in force behind them, the block in work, and its halt.
+/// What peer `me` keeps of its log: the counted NEWBLOCKs and votes, the completed blocks, the state and what is in force after them, the block in work, and its halt.
 #[derive(Drop)]
 pub struct Desk {
     pub me: u8,

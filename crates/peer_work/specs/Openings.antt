@@ -33,7 +33,7 @@ pub record IsWhole (table : Table) (o : Opened) : Type 0 where
   pub closed : IsKnownClosed table.kind o.block.txns o.known
   pub held : IsFor o.held o.block.number
 
--- the next block behind a ledger
+-- the next block after a ledger
 pub record IsWellOpened (table : Table) (ledger : List Entry) (o : Opened) : Type 0 where
   pub whole : IsWhole table o
   pub number : o.block.number ≡ length ledger + 1

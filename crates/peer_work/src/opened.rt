@@ -91,7 +91,7 @@ fn open(
     })
 }
 
-/// The block that is ready behind the ledger, newly in work.
+/// The block that is ready after the ledger, newly in work.
 fn take_up(
     alloc: Global,
     table: &Table,
@@ -117,7 +117,7 @@ fn take_up(
     Ok(Some(opened))
 }
 
-/// The block in work, as it stood or newly taken up.
+/// The block in work, as it was or newly taken up.
 pub fn next_work(
     alloc: Global,
     table: &Table,

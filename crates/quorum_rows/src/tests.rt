@@ -1,4 +1,4 @@
-//! What is told of a graph, and what votes and NEWBLOCKs come to, with ample memory.
+//! What is said of a graph, and what votes and NEWBLOCKs come to, with ample memory.
 
 mod graphs;
 mod newblocks;

@@ -1,10 +1,11 @@
 //! A frame whose words keep the value of each record.
 ghost use Rattle.std.specs.Prelude.{◌≡◌};
 
-use board_frame::{Frame, Layout, Made, Pass, Plan, Ran, Take, Work};
+use board_frame::{Evaluated, Frame, Layout, Made, Pass, Plan, Ran, Take, Taken, Work, evaluate};
 use std::alloc::Global;
 use std::marker::Model;
-use txn_types::{OutOfMemory, Outcome};
+use txn_core::Table;
+use txn_types::{OutOfMemory, Outcome, Txn};
 
 /// A plan whose graph has every conflict, with one value word a record.
 #[derive(Drop)]
@@ -39,9 +40,17 @@ impl Work for Board {
 
     type Pass = Pass;
 
+    type Taken = Taken;
+
+    type Evaluated = Evaluated;
+
     ghost home = { frame_home };
 
     ghost state = { pass_state };
+
+    ghost position = { λ x. x };
+
+    ghost evaluation = { λ x. x };
 
     ghost closed = { IsFrameClosed };
 
@@ -54,7 +63,7 @@ impl Work for Board {
         self.frame.split(alloc, pass)
     }
 
-    fn take(&self, pass: &mut Pass, t: u16) -> Take {
+    fn take(&self, pass: &mut Pass, t: u16) -> Take<Taken> {
         self.frame.take(pass, t)
     }
 
@@ -62,8 +71,16 @@ impl Work for Board {
         self.frame.inputs(pass, t, out)
     }
 
-    fn finish(&self, pass: &mut Pass, t: u16, outcome: &Outcome, made: &mut Made) {
-        self.frame.finish(pass, t, outcome, made)
+    fn evaluate(table: &Table, txn: &Txn, inputs: &[u64; 16], taken: Taken) -> Evaluated {
+        evaluate(table, txn, inputs, taken)
+    }
+
+    fn outcome(evaluated: &Evaluated) -> &Outcome {
+        evaluated.outcome()
+    }
+
+    fn finish(&self, pass: &mut Pass, evaluated: Evaluated, made: &mut Made) {
+        self.frame.finish(pass, evaluated, made)
     }
 
     fn untried(pass: &Pass) -> Option<u16> {

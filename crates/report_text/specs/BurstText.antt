@@ -5,7 +5,7 @@ use Rattle.oxii_defs.specs.Table.{Table}
 use Rattle.oxii_defs.specs.BlockBytes.{peer_name}
 use Rattle.board_defs.specs.Trace.{Span}
 
--- transactions and workers are numbered from 1, and stamps stand as they are
+-- transactions and workers are numbered from 1, and stamps are as they are
 abbrev pub span_line : Span → List ℕ
 span_line s =
     codes "span " ++ decimal (s.position + 1) ++ codes " " ++ decimal (s.worker + 1)

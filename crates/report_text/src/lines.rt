@@ -1,4 +1,4 @@
-//! The printed lines of a peer, and what stands around them.
+//! The printed lines of a peer, and what is around them.
 
 ghost use Rattle.std.specs.Prelude.{◌≡◌, ◌≤◌, ◌<◌, ◌++◌, ◌+◌, ◌^◌, [], ◌∷◌, ℕ, Option, Some, None, List, length, codes, decimal, OnOk};
 ghost use Rattle.std.specs.List.{All, AllByRecursion, flat_map};

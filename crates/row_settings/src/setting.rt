@@ -34,9 +34,7 @@ pub fn setting_of(alloc: Global, document: &str) -> Result<Setting, Trouble>
     ensures document { IfOk result (λ setting. IsOfDocument document.now setting.table setting.genesis setting.bodies setting.blocks) }
     ensures bodies { IfOk result (λ setting. All (λ body. IsLawfulBody (table_of setting.table) body.txns body.config) setting.bodies) }
 {
-    let Ok(bytes) = quoted(alloc, document.as_bytes()) else {
-        return Err(Trouble::Memory);
-    };
+    let bytes = quoted(alloc, document.as_bytes())?;
     let input = match read_input(alloc, bytes.as_slice()) {
         Ok(input) => input,
         Err(DocFault::OutOfMemory) => return Err(Trouble::Memory),
@@ -49,12 +47,8 @@ pub fn setting_of(alloc: Global, document: &str) -> Result<Setting, Trouble>
         limits,
         ..
     } = input;
-    let Ok(cut) = cut(alloc, &table, items.as_slice(), &limits) else {
-        return Err(Trouble::Memory);
-    };
-    let Ok(blocks) = chain(alloc, &table, &cut.bodies) else {
-        return Err(Trouble::Memory);
-    };
+    let cut = cut(alloc, &table, items.as_slice(), &limits)?;
+    let blocks = chain(alloc, &table, &cut.bodies)?;
     Ok(Setting {
         table,
         genesis,

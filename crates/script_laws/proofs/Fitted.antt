@@ -13,7 +13,7 @@ use Rattle.oxii_defs.specs.Outcomes.{outcome}
 use Rattle.oxii_defs.proofs.Small.{outcomes_fit, states_stay}
 use Rattle.known_defs.specs.Known.{txn_at, no_txn}
 use Rattle.board_defs.specs.Closure.{Plan, known_at, can_run, run_of, comes_to, closure_upto}
-use Rattle.txn_core.proofs.TableLemmas.{op_well_formed}
+use Rattle.oxii_defs.proofs.Lawful.{op_well_formed}
 use Rattle.txn_core.proofs.StateLemmas.{fit_length, fit_entry}
 use Rattle.board_defs.specs.Closure.{IsLawfulPlan}
 use Rattle.board_work.specs.Scripts.{apply_known, outcome_at, state_before}

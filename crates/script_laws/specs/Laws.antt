@@ -25,7 +25,7 @@ pub record IsPlanFor (layout : Layout) (plan : Plan) : Type 0 where
   pub lawful : IsLawfulPlan plan
   pub full : has_values layout ≡ true → plan.table.kind ≡ Full
 
--- the rule can stand over the script of such a plan
+-- the rule can be over the script of such a plan
 abbrev pub ScriptsAreSound : Type 0
 ScriptsAreSound = (layout : Layout) (plan : Plan) → IsPlanFor layout plan → AreHeld plan → IsSound (script_of layout plan)
 

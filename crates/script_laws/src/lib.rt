@@ -3,7 +3,7 @@
 
 ghost use Rattle.script_laws.specs.Laws.{ScriptsAreSound, TracesAreLawful, VersionsAreKept};
 
-/// The rule of a board can stand over the script of a plan, of kind full where the words keep values.
+/// The rule of a board can be put over the script of a plan, of kind full where the words keep values.
 pub fn scripts_are_sound()
     ensures { ScriptsAreSound }
 {}

@@ -58,7 +58,7 @@ fn drawn(alloc: Global, draws: &mut Draws) -> Result<Request, OutOfMemory>
     payment(alloc, app as u8, from as u16, to as u16, u64::from(amount))
 }
 
-/// So many payments behind a seed.
+/// So many payments after a seed.
 pub fn stream(alloc: Global, seed: u16, txns: u16) -> Result<ItemList, OutOfMemory>
     ensures { IfOk result (λ items. items ≡ stream_behind seed txns) }
 {

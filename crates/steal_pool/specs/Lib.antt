@@ -3,5 +3,6 @@ pub use Rattle.board_work.specs.Plans
 pub use Rattle.board_work.specs.Spans
 pub mod Fitting
 pub mod Hints
+pub mod Others
 pub mod Passes
 pub mod Tasks

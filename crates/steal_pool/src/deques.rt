@@ -1,7 +1,9 @@
 //! The deque of each worker, and the thieves of the others.
-ghost use Rattle.std.specs.Prelude.{◌≡◌, ◌<◌, ◌+◌, ℕ, [], IfOk, IfSome, OnOk, length, true};
+ghost use Rattle.std.specs.Prelude.{◌≡◌, ◌<◌, ◌+◌, ℕ, [], IfOk, IfSome, length, map, true};
+ghost use Rattle.crossbeam_deque.specs.Handles.{worker_deque, stealer_deque};
 ghost use Rattle.board_core.specs.Counts.{times};
 ghost use Rattle.steal_pool.specs.Hints.{IsOwn};
+ghost use Rattle.steal_pool.specs.Others.{without_place, HaveOthers};
 
 use crate::hints::{HintRule, Hints, Thief};
 use crate::own_flags::OwnFlags;
@@ -35,18 +37,21 @@ fn empty_deques<F: OwnFlags>(alloc: Global, workers: usize) -> Result<Vec<Deques
     Ok(deques)
 }
 
-// A thief of one deque for each of the others.
-fn share_deque<F: OwnFlags>(deques: &mut Vec<Deques<F>>, shared: usize) -> Result<(), OutOfMemory>
-    requires { shared < length deques.old.items }
-    ensures { OnOk result (length deques.new.items ≡ length deques.old.items) }
+// Thieves of all deques but that of one worker.
+fn thieves_for<F: OwnFlags>(
+    alloc: Global,
+    deques: &[Deques<F>],
+    worker: usize,
+) -> Result<Vec<Thief<F>>, OutOfMemory>
+    ensures { IfOk result (λ thieves. map stealer_deque thieves.items ≡ without_place worker (map (λ d. worker_deque d.own) deques.now)) }
 {
+    let mut thieves = Vec::new(alloc);
     for other in 0..deques.len() {
-        if other != shared {
-            let thief = deques[shared].own.stealer()?;
-            deques[other].others.push(thief)?;
+        if other != worker {
+            thieves.push(deques[other].own.stealer()?)?;
         }
     }
-    Ok(())
+    Ok(thieves)
 }
 
 /// For each worker an empty deque, and thieves of all others.
@@ -54,11 +59,12 @@ pub(crate) fn open_deques<F: OwnFlags>(
     alloc: Global,
     workers: usize,
 ) -> Result<Vec<Deques<F>>, OutOfMemory>
-    ensures { IfOk result (λ deques. length deques.items ≡ workers) }
+    ensures count { IfOk result (λ deques. length deques.items ≡ workers) }
+    ensures others { IfOk result (λ deques. HaveOthers (λ d. worker_deque d.own) (λ d. map stealer_deque d.others.items) deques.items workers) }
 {
     let mut deques = empty_deques(alloc, workers)?;
-    for shared in 0..workers {
-        share_deque(&mut deques, shared)?;
+    for worker in 0..workers {
+        deques[worker].others = thieves_for(alloc, deques.as_slice(), worker)?;
     }
     Ok(deques)
 }

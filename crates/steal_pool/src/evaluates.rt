@@ -6,18 +6,20 @@ ghost use Rattle.oxii_defs.specs.Lawful.{IsLawfulTable, IsLawfulTxn};
 ghost use Rattle.oxii_defs.specs.Table.{Table as Meant};
 ghost use Rattle.oxii_defs.specs.Outcomes.{outcome_in};
 
-use txn_core::{Scratch, Table, op_named, run_txn};
-use txn_types::{Outcome, Txn};
+use board_work::Work;
+use txn_core::Table;
+use txn_types::Txn;
 
-/// Runs a transaction on what it reads.
+/// Evaluates a taken position on what its transaction reads.
 pub(crate) trait Evaluates: Sync {
     ghost table: { Self → Meant };
 
-    fn run(&self, txn: &Txn, inputs: &[u64; 16]) -> Outcome
+    fn run<W: Work>(&self, txn: &Txn, inputs: &[u64; 16], taken: W::Taken) -> W::Evaluated
         requires table { IsLawfulTable (table self.now) }
         requires lawful { IsLawfulTxn (table self.now) txn.now }
         requires range { (k : ℕ) → k < length txn.now.reads → slice_index inputs.now k ≤ max_value }
-        ensures outcome { (s : State) → map (value_in s) txn.now.reads ≡ take (length txn.now.reads) inputs.now → result ≡ outcome_in (table self.now) s txn.now };
+        ensures position { (W.evaluation result).position ≡ W.position taken }
+        ensures outcome { (s : State) → map (value_in s) txn.now.reads ≡ take (length txn.now.reads) inputs.now → (W.evaluation result).outcome ≡ outcome_in (table self.now) s txn.now };
 }
 
 impl Evaluates for Table {
@@ -25,8 +27,7 @@ impl Evaluates for Table {
 
     ghost table = { table_of };
 
-    fn run(&self, txn: &Txn, inputs: &[u64; 16]) -> Outcome {
-        let op = op_named(self, txn);
-        run_txn(op, txn, inputs, &mut Scratch::new())
+    fn run<W: Work>(&self, txn: &Txn, inputs: &[u64; 16], taken: W::Taken) -> W::Evaluated {
+        W::evaluate(self, txn, inputs, taken)
     }
 }

@@ -7,7 +7,7 @@ use board_work::Work;
 use std::alloc::Global;
 use txn_types::OutOfMemory;
 
-/// The passes of the workers behind the first.
+/// The passes of the workers after the first.
 pub(crate) fn split_all<W: Work>(
     alloc: Global,
     work: &W,

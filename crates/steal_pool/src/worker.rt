@@ -15,7 +15,7 @@ use txn_core::Gate;
 
 const MOST_HINTS: u32 = 256;
 
-// Runs a position that the pass has taken.
+// Runs a position that the pass has taken: what is taken is evaluated, and what is evaluated finishes.
 fn run_one<W: Work, A: Evaluates, B: TxnList, G: Gate>(
     work: &W,
     table: &A,
@@ -23,9 +23,11 @@ fn run_one<W: Work, A: Evaluates, B: TxnList, G: Gate>(
     gate: &G,
     pass: &mut W::Pass,
     t: u16,
+    taken: W::Taken,
     made: &mut Made,
 )
     requires of { IsOf (W.home work.now) (W.state pass.old) }
+    requires taken { W.position taken ≡ t }
     requires task { IsTask (W.home work.now).plan (A.table table.now) (B.txns block.now) }
     requires held { (W.state pass.old).held ≡ t ∷ [] }
     requires own { is_own (W.home work.now).plan t ≡ true }
@@ -37,9 +39,9 @@ fn run_one<W: Work, A: Evaluates, B: TxnList, G: Gate>(
     gate.begin(block.number(), t);
     let mut inputs = [0; 16];
     work.inputs(pass, t, &mut inputs);
-    let outcome = table.run(block.txn(t), &inputs);
+    let evaluated = table.run::<W>(block.txn(t), &inputs, taken);
     gate.end(block.number(), t);
-    work.finish(pass, t, &outcome, made);
+    work.finish(pass, evaluated, made);
 }
 
 // Tries a position, and runs it where it is taken. What this makes ready is left in the list.
@@ -62,7 +64,7 @@ fn try_one<W: Work, A: Evaluates, B: TxnList, G: Gate>(
     ensures made { (x : ℕ) → 0 < times x made.new → is_own (W.home work.now).plan x ≡ true }
 {
     match work.take(pass, t) {
-        Take::Taken => run_one(work, table, block, gate, pass, t, made),
+        Take::Taken(taken) => run_one(work, table, block, gate, pass, t, taken, made),
         Take::NotReady(_) => {}
         Take::Gone => {}
     }

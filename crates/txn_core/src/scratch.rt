@@ -129,7 +129,7 @@ impl Scratch {
     }
 }
 
-/// The place of a record in a list.
+/// The position of a record in a list.
 pub fn place_of(records: &[u16], number: u16) -> Option<usize>
     ensures place { result ≡ place records.now number }
     ensures within { IfSome result (λ at. at < length records.now) }

@@ -102,7 +102,7 @@ pub fn run_one(table: &Table, txn: &Txn, values: &mut Values, scratch: &mut Scra
     outcome
 }
 
-/// The serial run of block `number`: what each transaction means in the state that those before it leave; the gate is told of each begin and end. After an `Err` the values are of no use.
+/// The serial run of block `number`: what each transaction means in the state that those before it leave; the gate is called at each begin and end. After an `Err` the values are of no use.
 pub fn run_serial<G: Gate>(
     alloc: Global,
     table: &Table,

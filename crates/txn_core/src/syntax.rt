@@ -24,7 +24,7 @@ pub enum Cmp {
     Ge,
 }
 
-/// What has a value: a number, a number parameter or a record parameter by its place, a local by its slot, or two operands.
+/// What has a value: a number, a number parameter or a record parameter by its position, a local by its slot, or two operands.
 #[derive(Drop)]
 pub enum Expr {
     Num(u64),

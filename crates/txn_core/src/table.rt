@@ -22,7 +22,7 @@ pub struct App {
 /// A list of applications.
 pub type Apps = GrowingList<App>;
 
-/// The kind of graphs, and all names; what is numbered stands at its number.
+/// The kind of graphs, and all names; what is numbered is at its number.
 #[derive(Drop)]
 pub struct Table {
     pub kind: Kind,

@@ -12,7 +12,7 @@ IsValue x = x ≤ max_value
 abbrev pub AreValues : List ℕ → Type 0
 AreValues = All IsValue
 
--- the largest number of a block: 4,096 transactions and 256 configurations, each alone, and one behind
+-- the largest number of a block: 4,096 transactions and 256 configurations, each alone, and one after
 abbrev pub max_number : ℕ
 max_number = 4353
 
@@ -20,6 +20,6 @@ max_number = 4353
 abbrev pub max_false : ℕ
 max_false = 1024
 
--- the largest product of repeat counts that stand inside one another
+-- the largest product of repeat counts that are inside one another
 abbrev pub max_turns : ℕ
 max_turns = 1024

@@ -1,4 +1,4 @@
-//! Copies that can want memory.
+//! Copies that can run out of memory.
 
 ghost use Rattle.std.specs.Prelude.{◌≡◌, ◌∷◌, ◌++◌, [], take, IfOk};
 

@@ -2,7 +2,7 @@
 
 use crate::{Commit, GrowingList, Node, Preds};
 
-/// Places of items in the stream, from 0.
+/// Positions of items in the stream, from 0.
 pub type Items = GrowingList<u32>;
 
 /// What happens in a schedule.

@@ -5,7 +5,7 @@ ghost use Rattle.txn_types.specs.Nodes.{rank_of};
 
 use crate::{Block, GrowingList, Outcome, Ranked, Recs, RisingList};
 
-/// A peer or an orderer, by its place in the table.
+/// A peer or an orderer, by its position in the table.
 #[derive(Clone, Copy, Debug, PartialEq, Eq)]
 pub enum Node {
     Peer(u8),
@@ -24,7 +24,7 @@ impl Ranked for Node {
     ghost rank = { rank_of };
 }
 
-/// At most 32 nodes, strictly rising: peers before orderers, each by their places in the table.
+/// At most 32 nodes, strictly rising: peers before orderers, each by their positions in the table.
 pub type NodeSet = RisingList<Node, 32>;
 
 /// For each position of a block the positions that it depends on.

@@ -6,9 +6,9 @@ ghost use Rattle.txn_types.specs.Rising.{IsRising};
 use crate::FixedList;
 use std::marker::Model;
 
-/// What has a place in an order.
+/// What has a position in an order.
 pub trait Ranked: Copy + Default {
-    /// Its place.
+    /// Its position.
     ghost rank: { Self → ℕ };
 }
 

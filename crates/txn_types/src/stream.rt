@@ -58,7 +58,7 @@ pub enum Reject {
     SetTooLarge,
 }
 
-/// A request that is not admitted, by the place of its item in the stream, from 0.
+/// A request that is not admitted, by the position of its item in the stream, from 0.
 #[derive(Clone, Copy, Debug, PartialEq, Eq)]
 pub struct Rejected {
     pub item: u32,

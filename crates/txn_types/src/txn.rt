@@ -41,7 +41,7 @@ pub type Args = FixedList<Arg, 16>;
 /// At most 16 record numbers, strictly rising.
 pub type Recs = RisingList<u16, 16>;
 
-/// At most 16 peers by their places in the table, strictly rising.
+/// At most 16 peers by their positions in the table, strictly rising.
 pub type PeerSet = RisingList<u8, 16>;
 
 /// For each of at most 16 records its new value, or none where it was not written.

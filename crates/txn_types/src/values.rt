@@ -11,13 +11,13 @@ use std::marker::Model;
 /// The largest value of a record, 2^62 - 1.
 pub const MAX: u64 = 4_611_686_018_427_387_903;
 
-/// The largest number of a block: 4,096 transactions and 256 configurations, each alone, and one behind.
+/// The largest number of a block: 4,096 transactions and 256 configurations, each alone, and one after.
 pub const MAX_NUMBER: u64 = 4353;
 
 /// The most messages that faulty nodes say.
 pub const MAX_FALSE: u32 = 1024;
 
-/// The largest product of repeat counts that stand inside one another.
+/// The largest product of repeat counts that are inside one another.
 pub const MAX_TURNS: u64 = 1024;
 
 /// One number up to `MAX` for each record of a table.
@@ -70,7 +70,7 @@ impl Values {
         self.items.pop()
     }
 
-    /// Puts a value in the place of value `i`.
+    /// Puts a value in place of value `i`.
     pub fn set(&mut self, i: usize, x: u64)
         requires place { i < length self.old }
         requires value { IsValue x }

@@ -10,11 +10,12 @@ ghost use Rattle.board_frame.specs.Seen.{pass_state};
 ghost use Rattle.board_frame.specs.Frames.{IsPassOf, frame_home};
 
 use crate::walk::place_of;
-use board_frame::{Frame, Layout, Made, Pass, Plan, Ran, Take, Work};
+use board_frame::{Evaluated, Frame, Layout, Made, Pass, Plan, Ran, Take, Taken, Work, evaluate};
 use board_words::read_cell;
 use std::alloc::Global;
 use std::marker::Model;
-use txn_types::{Copies, OutOfMemory, Outcome, Values};
+use txn_core::Table;
+use txn_types::{Copies, OutOfMemory, Outcome, Txn, Values};
 
 /// A plan with a graph of either kind, with a word for the version that each writer gives each record, which is set once, and the values before the block.
 #[derive(Drop)]
@@ -109,9 +110,17 @@ impl Work for Slots {
 
     type Pass = Pass;
 
+    type Taken = Taken;
+
+    type Evaluated = Evaluated;
+
     ghost home = { frame_home };
 
     ghost state = { pass_state };
+
+    ghost position = { λ x. x };
+
+    ghost evaluation = { λ x. x };
 
     ghost closed = { IsFrameClosed };
 
@@ -125,7 +134,7 @@ impl Work for Slots {
         self.frame.split(alloc, pass)
     }
 
-    fn take(&self, pass: &mut Pass, t: u16) -> Take {
+    fn take(&self, pass: &mut Pass, t: u16) -> Take<Taken> {
         self.frame.take(pass, t)
     }
 
@@ -133,8 +142,16 @@ impl Work for Slots {
         self.inputs_at(pass, t as usize, out)
     }
 
-    fn finish(&self, pass: &mut Pass, t: u16, outcome: &Outcome, made: &mut Made) {
-        self.frame.finish(pass, t, outcome, made)
+    fn evaluate(table: &Table, txn: &Txn, inputs: &[u64; 16], taken: Taken) -> Evaluated {
+        evaluate(table, txn, inputs, taken)
+    }
+
+    fn outcome(evaluated: &Evaluated) -> &Outcome {
+        evaluated.outcome()
+    }
+
+    fn finish(&self, pass: &mut Pass, evaluated: Evaluated, made: &mut Made) {
+        self.frame.finish(pass, evaluated, made)
     }
 
     fn untried(pass: &Pass) -> Option<u16> {

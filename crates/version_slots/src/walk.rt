@@ -2,7 +2,7 @@
 ghost use Rattle.std.specs.Prelude.{◌≡◌, ◌<◌, length, slice_index};
 ghost use Rattle.version_slots.specs.Places.{place_in};
 
-/// Where the record stands in the list.
+/// Where the record is in the list.
 pub(crate) fn place_of(writes: &[u16], r: u16) -> Option<usize>
     ensures { result ≡ place_in writes.now r }
 {

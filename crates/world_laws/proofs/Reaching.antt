@@ -15,7 +15,8 @@ use Rattle.node_defs.specs.Rules.{IsLocal, Rules}
 use Rattle.node_defs.specs.Log.{Letter}
 use Rattle.node_defs.specs.World.{Setting, World, delivered, given_to, happens, idled, is_faulty, message_at, peers_of, says}
 use Rattle.node_laws.specs.OneWorld.{most_messages, txns_carried, txns_carried_by}
-use Rattle.node_laws.proofs.Ends.{IsFed, IsFrom, carried_more, ends, from_itself, given_from, message_has, of_more, totals_fit}
+use Rattle.node_laws.specs.Fed.{IsFed}
+use Rattle.node_laws.proofs.Ends.{IsFrom, carried_more, ends, from_itself, given_from, message_has, of_more, totals_fit}
 use Rattle.node_laws.proofs.Run.{same_world}
 use Rattle.node_laws.proofs.Same.{rules_local}
 use Rattle.peer_turns.specs.Peers.{KeptPeer}

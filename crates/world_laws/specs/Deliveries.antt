@@ -87,6 +87,6 @@ AreBurstsOf kind workers (r ∷ ran) [] = ⊥
 abbrev pub AreBursts : Setting → ℕ → List Delivery → List Burst → Type 0
 AreBursts s workers deliveries bursts = AreBurstsOf s.rules.table.kind workers (runs_with s.rules deliveries) bursts
 
--- the bursts of these deliveries come behind
+-- the bursts of these deliveries come after
 abbrev pub AddsBursts : Setting → ℕ → List Delivery → List Burst → List Burst → Type 0
 AddsBursts s workers deliveries old new = (more : List Burst) × (new ≡ old ++ more) × AreBursts s workers deliveries more

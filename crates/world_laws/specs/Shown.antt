@@ -12,7 +12,7 @@ use Rattle.node_defs.specs.Programs.{rules_of}
 use Rattle.node_defs.specs.Log.{Letter, Log}
 use Rattle.node_defs.specs.Sent.{sent}
 use Rattle.node_defs.specs.World.{World, Setting, happens, is_faulty, log_of}
-use Rattle.node_laws.proofs.Ends.{IsFed, totals}
+use Rattle.node_laws.specs.Fed.{IsFed, totals}
 use Rattle.node_laws.specs.OneWorld.{txns_carried}
 use Rattle.peer_laws.specs.Runs.{runs}
 use Rattle.peer_turns.specs.declared.listing.BlockSpans.{BlockSpans}

@@ -6,7 +6,7 @@ use par_io::{
 };
 use std::test::Fail;
 
-/// A text of 250 bytes, in pieces of 100: three calls give bytes, and the fourth tells the end.
+/// A text of 250 bytes, in pieces of 100: three calls give bytes, and the fourth reports the end.
 #[test]
 fn reads_in_pieces(rt: HostRuntime) -> Result<(), Fail> {
     let alloc = rt.alloc();

@@ -1,6 +1,6 @@
 //! The rows on one thread, over any value that several workers run a plan on.
 
-ghost use Rattle.std.specs.Prelude.{◌≡◌, ◌<◌, ℕ, length, true};
+ghost use Rattle.std.specs.Prelude.{◌≡◌, ◌<◌, ℕ, length, true, Ok};
 ghost use Rattle.board_defs.specs.Closure.{is_own};
 ghost use Rattle.board_work.specs.Plans.{IsRunnable, plan_of};
 
@@ -10,6 +10,16 @@ use row_trouble::Trouble;
 use std::alloc::Global;
 use std::process::Abort;
 use txn_types::Kind;
+
+// A call answered as the row says.
+fn said<T, E>(rt: &impl Abort, answer: Result<T, E>) -> T
+    ensures { answer ≡ Ok result }
+{
+    match answer {
+        Ok(answer) => answer,
+        Err(_other) => panic!(rt; "not as the row says"),
+    }
+}
 
 /// Three positions in a chain, run by one of two passes.
 #[tactic(auto, using(board_settings::proofs::PassLemmas::two_passes))]
@@ -28,15 +38,15 @@ pub fn relay<W: Work, T: Task>(
     assert_eq!(rt; plan.block.txns.len(), 3);
     let (work, mut first) = W::plan(alloc, plan)?;
     let mut second = work.split(alloc, &mut first)?;
-    takes(&work, &mut first, 0)?;
-    assert_eq!(rt; misses(&work, &mut second, 0)?, None);
-    assert_eq!(rt; misses(&work, &mut second, 1)?, Some(1));
-    runs(&work, task, &mut first, 0, &wanted[0])?;
-    takes(&work, &mut first, 1)?;
-    assert_eq!(rt; misses(&work, &mut first, 2)?, Some(1));
-    runs(&work, task, &mut first, 1, &wanted[1])?;
-    takes(&work, &mut first, 2)?;
-    runs(&work, task, &mut first, 2, &wanted[2])?;
+    let held_0 = said(rt, takes(&work, &mut first, 0));
+    assert_eq!(rt; said(rt, misses(&work, &mut second, 0)), None);
+    assert_eq!(rt; said(rt, misses(&work, &mut second, 1)), Some(1));
+    said(rt, runs(&work, task, &mut first, 0, held_0, &wanted[0]));
+    let held_1 = said(rt, takes(&work, &mut first, 1));
+    assert_eq!(rt; said(rt, misses(&work, &mut first, 2)), Some(1));
+    said(rt, runs(&work, task, &mut first, 1, held_1, &wanted[1]));
+    let held_2 = said(rt, takes(&work, &mut first, 2));
+    said(rt, runs(&work, task, &mut first, 2, held_2, &wanted[2]));
     let both = work.join(first, second);
     assert!(rt; W::untried(&both).is_none());
     Ok(work.close(both))
@@ -58,9 +68,9 @@ pub fn anti_dependency<W: Work, T: Task>(
     assert_eq!(rt; plan.block.txns.len(), 2);
     let (work, mut first) = W::plan(alloc, plan)?;
     let mut second = work.split(alloc, &mut first)?;
-    takes(&work, &mut first, 0)?;
-    assert_eq!(rt; misses(&work, &mut second, 1)?, Some(1));
-    runs(&work, task, &mut first, 0, &wanted[0])?;
+    let held_0 = said(rt, takes(&work, &mut first, 0));
+    assert_eq!(rt; said(rt, misses(&work, &mut second, 1)), Some(1));
+    said(rt, runs(&work, task, &mut first, 0, held_0, &wanted[0]));
     Ok(())
 }
 
@@ -81,10 +91,10 @@ pub fn beside<W: Work, T: Task>(
     assert_eq!(rt; plan.block.txns.len(), 2);
     let (work, mut first) = W::plan(alloc, plan)?;
     let mut second = work.split(alloc, &mut first)?;
-    takes(&work, &mut first, 0)?;
-    takes(&work, &mut second, 1)?;
-    runs(&work, task, &mut second, 1, &wanted[1])?;
-    runs(&work, task, &mut first, 0, &wanted[0])?;
+    let held_0 = said(rt, takes(&work, &mut first, 0));
+    let held_1 = said(rt, takes(&work, &mut second, 1));
+    said(rt, runs(&work, task, &mut second, 1, held_1, &wanted[1]));
+    said(rt, runs(&work, task, &mut first, 0, held_0, &wanted[0]));
     let both = work.join(first, second);
     assert!(rt; W::untried(&both).is_none());
     Ok(work.close(both))
@@ -107,15 +117,15 @@ pub fn writers<W: Work, T: Task>(
     assert_eq!(rt; plan.block.txns.len(), 4);
     let (work, mut first) = W::plan(alloc, plan)?;
     let mut second = work.split(alloc, &mut first)?;
-    takes(&work, &mut first, 0)?;
-    takes(&work, &mut second, 1)?;
-    assert_eq!(rt; misses(&work, &mut second, 2)?, Some(2));
-    runs(&work, task, &mut second, 1, &wanted[1])?;
-    runs(&work, task, &mut first, 0, &wanted[0])?;
-    takes(&work, &mut first, 2)?;
-    runs(&work, task, &mut first, 2, &wanted[2])?;
-    takes(&work, &mut second, 3)?;
-    runs(&work, task, &mut second, 3, &wanted[3])?;
+    let held_0 = said(rt, takes(&work, &mut first, 0));
+    let held_1 = said(rt, takes(&work, &mut second, 1));
+    assert_eq!(rt; said(rt, misses(&work, &mut second, 2)), Some(2));
+    said(rt, runs(&work, task, &mut second, 1, held_1, &wanted[1]));
+    said(rt, runs(&work, task, &mut first, 0, held_0, &wanted[0]));
+    let held_2 = said(rt, takes(&work, &mut first, 2));
+    said(rt, runs(&work, task, &mut first, 2, held_2, &wanted[2]));
+    let held_3 = said(rt, takes(&work, &mut second, 3));
+    said(rt, runs(&work, task, &mut second, 3, held_3, &wanted[3]));
     let both = work.join(first, second);
     assert!(rt; W::untried(&both).is_none());
     Ok(work.close(both))

@@ -7,7 +7,7 @@ use std::alloc::Global;
 use std::test::Fail;
 use txn_types::{OutOfMemory, Text};
 
-/// The canonical text of what a text reads as; one that is too long or has a fault counts as want of memory.
+/// The canonical text of what a text reads as; one that is too long or has a fault counts as out of memory.
 fn reprinted(alloc: Global, text: &str) -> Result<Text, OutOfMemory> {
     if text.len() > 65536 {
         return Err(OutOfMemory);

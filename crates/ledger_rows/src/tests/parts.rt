@@ -2,8 +2,9 @@
 
 ghost use Rattle.std.specs.Prelude.{◌≡◌, ◌<◌, [], ◌∷◌, length, Some, IfOk};
 
+use evidence_marks::{AgentMark, AgentMarks, Evidence, OrdererMark, OrdererMarks};
 use hash_ledger::Ledger;
-use report_text::{head, peer_part, tail};
+use report_text::{evidence_part, head, peer_part, tail};
 use std::alloc::Global;
 use std::test::Fail;
 use txn_core::{Apps, Table};
@@ -114,6 +115,39 @@ fn what_stands_around_is_told(rt: HostRuntime) -> Result<(), Fail> {
     assert_eq!(rt;
         text.as_slice(),
         b"rejected 2 unknown_app\nblocks 1\nmessages 4\nidle 0\n".as_slice()
+    );
+    Ok(())
+}
+
+#[test]
+fn who_said_two_things_is_told(rt: HostRuntime) -> Result<(), Fail> {
+    let alloc = rt.alloc();
+    let mut text = Text::new(alloc);
+    let mut table = table(alloc)?;
+    let first = Name::new(b"o1").ok_or("no name")?;
+    let second = Name::new(b"o3").ok_or("no name")?;
+    table.orderers = two_names(alloc, first, second)?;
+    let mut orderers = OrdererMarks::new(alloc);
+    orderers.put(OrdererMark { orderer: 1, n: 12 })?;
+    let mut agents = AgentMarks::new(alloc);
+    agents.put(AgentMark {
+        agent: 1,
+        n: 7,
+        t: 199,
+    })?;
+    agents.put(AgentMark {
+        agent: 0,
+        n: 1,
+        t: 0,
+    })?;
+    let evidence = Evidence {
+        orderers: &orderers,
+        agents: &agents,
+    };
+    evidence_part(alloc, &mut text, &table, 1, &evidence)?;
+    assert_eq!(rt;
+        text.as_slice(),
+        b"evidence p4 orderer o3 12\nevidence p4 agent p1 1 1\nevidence p4 agent p4 7 200\n".as_slice()
     );
     Ok(())
 }

@@ -2,23 +2,6 @@
 
 use super::*;
 
-// No proper part from the front of a document is JSON.
-#[test]
-fn parts_from_the_front(rt: HostRuntime) -> Result<(), Fail> {
-    let bytes = TRANSFER.as_bytes();
-    for length in 0..bytes.len() {
-        let line = line_of(&rt, rt.alloc(), &bytes[..length])?;
-        assert_eq!(rt;
-            line.as_str(),
-            "parblock: refused: not json\n",
-            "{length} bytes"
-        );
-    }
-    let line = line_of(&rt, rt.alloc(), bytes)?;
-    assert_eq!(rt; line.as_str(), "");
-    Ok(())
-}
-
 // A text is one JSON value, and the root is an object.
 #[test]
 fn json_values(rt: HostRuntime) -> Result<(), Fail> {
@@ -90,7 +73,8 @@ fn the_empty_key(rt: HostRuntime) -> Result<(), Fail> {
     Ok(())
 }
 
-fn nested(
+/// A text inside so many pairs of brackets.
+pub fn nested(
     alloc: Global,
     open: &str,
     inner: &str,
@@ -145,17 +129,5 @@ fn bytes_of_strings(rt: HostRuntime) -> Result<(), Fail> {
         let length = bytes.len();
         assert_eq!(rt; line.as_str(), wanted, "{length} bytes");
     }
-    Ok(())
-}
-
-// The transfer document with a byte that is no UTF-8 in a name.
-#[test]
-fn a_byte_of_a_name(rt: HostRuntime) -> Result<(), Fail> {
-    let mut bytes = Vec::new(rt.alloc());
-    for byte in TRANSFER.as_bytes() {
-        bytes.push(if *byte == b'k' { 255 } else { *byte })?;
-    }
-    let line = line_of(&rt, rt.alloc(), bytes.as_slice())?;
-    assert_eq!(rt; line.as_str(), "parblock: refused: not json\n");
     Ok(())
 }

@@ -1,4 +1,4 @@
-//! Sources and sinks in small pieces, some of which fail, and the line of each status.
+//! Sources and sinks in small pieces, and the number and line of each status.
 
 use super::*;
 use par_top::{DocFault, Status, status_code};
@@ -31,17 +31,22 @@ pub fn in_pieces<R: Threads + Sync>(
     document: &str,
     failing: (&[u32], &[u32]),
 ) -> Result<Said, Fail> {
-    let words = words_of(alloc, line)?;
-    let mut source = MemSource::new(document.as_bytes(), 100, failing.0);
     let mut sink = MemSink::new(alloc, 16, 20_000, failing.1)?;
-    let status = run(
-        rt,
-        alloc,
-        words.as_slice(),
-        &mut source,
-        &mut sink,
-        &FreeGate,
-    );
+    into_sink(rt, alloc, line, document, failing.0, &mut sink)
+}
+
+/// What is said and written where memory is read in pieces of 100 bytes, which fails in the calls that are listed.
+pub fn into_sink<R: Threads + Sync>(
+    rt: &R,
+    alloc: Global,
+    line: &str,
+    document: &str,
+    failing: &[u32],
+    sink: &mut MemSink<'_>,
+) -> Result<Said, Fail> {
+    let words = words_of(alloc, line)?;
+    let mut source = MemSource::new(document.as_bytes(), 100, failing);
+    let status = run(rt, alloc, words.as_slice(), &mut source, sink, &FreeGate);
     let line = status_line(alloc, &status)?;
     Ok(Said {
         text: text_of(alloc, sink.bytes())?,
@@ -64,19 +69,6 @@ fn pieces(rt: HostRuntime) -> Result<(), Fail> {
         assert_eq!(rt; said.line.as_str(), "", "{document}");
         assert_eq!(rt; said.text.as_str(), text, "{document}");
     }
-    Ok(())
-}
-
-// A source or a sink that fails ends the run, and what was written is a part from the front.
-#[test]
-fn failing_devices(rt: HostRuntime) -> Result<(), Fail> {
-    let alloc = rt.alloc();
-    let said = in_pieces(&rt, alloc, "run", TRANSFER, (&[2], &[]))?;
-    assert_eq!(rt; said.line.as_str(), "parblock: read fault\n");
-    assert_eq!(rt; said.text.as_str(), "");
-    let said = in_pieces(&rt, alloc, "run", TRANSFER, (&[], &[3]))?;
-    assert_eq!(rt; said.line.as_str(), "parblock: write fault\n");
-    assert_eq!(rt; said.text.as_str(), "blocks 1\npeer p1 completed 1\nblo");
     Ok(())
 }
 

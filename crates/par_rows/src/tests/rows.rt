@@ -1,4 +1,4 @@
-//! How rows are told.
+//! How rows are named.
 
 use super::*;
 

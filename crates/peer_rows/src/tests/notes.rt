@@ -31,6 +31,7 @@ p4 votes 1 1=6,4 => Halted
 peer p1 completed 0
 state [10, 0]
 halted 1 1 writes [0, 1] ran 6,4 voted 0,10
+evidence p2 1 1
 ";
     assert_eq!(rt; answered(&rt, alloc, NOTES, 0, table)?.as_str(), table);
     Ok(())

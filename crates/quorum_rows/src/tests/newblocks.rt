@@ -1,5 +1,6 @@
-//! NEWBLOCKs are put with ample memory, and the first content to reach the quorum is told.
+//! NEWBLOCKs are put with ample memory, and the first content to reach the quorum is reported.
 
+use evidence_marks::OrdererMark;
 use newblock_quorum::{Inbox, NewBlockPut};
 use std::alloc::Global;
 use std::test::Fail;
@@ -111,6 +112,36 @@ fn the_first_content_of_two_orderers_is_ready(rt: HostRuntime) -> Result<(), Fai
         assert_eq!(rt; answered, answer, "{from:?} {amounts:?}");
         assert!(rt; is_ready(&inbox, ready), "behind {from:?} {amounts:?}");
     }
+    Ok(())
+}
+
+#[test]
+fn who_sends_two_blocks_is_marked(rt: HostRuntime) -> Result<(), Fail> {
+    let alloc = rt.alloc();
+    let mut inbox = Inbox::new(alloc, 4, 2, Kind::Full)?;
+    for (from, amounts, second) in [
+        (Node::Orderer(2), [1, 4].as_slice(), [0].as_slice()),
+        (Node::Orderer(2), &[1, 4], &[0]),
+        (Node::Orderer(2), &[4, 1], &[0]),
+        (Node::Orderer(2), &[4, 4], &[0]),
+        (Node::Orderer(0), &[4, 1], &[0]),
+        (Node::Orderer(0), &[1, 4], &[0]),
+        (Node::Orderer(1), &[4, 1], &[0]),
+        (Node::Orderer(1), &[4, 1], &[0]),
+        (Node::Orderer(3), &[4, 1], &[0]),
+        (Node::Orderer(3), &[1, 4], &[]),
+        (Node::Orderer(4), &[4, 1], &[0]),
+        (Node::Orderer(4), &[1, 4], &[0]),
+        (Node::Peer(1), &[4, 1], &[0]),
+        (Node::Peer(1), &[1, 4], &[0]),
+    ] {
+        put_transfers(alloc, &mut inbox, from, amounts, second)?;
+    }
+    let marks = [
+        OrdererMark { orderer: 0, n: 1 },
+        OrdererMark { orderer: 2, n: 1 },
+    ];
+    assert_eq!(rt; inbox.evidence().as_slice(), marks.as_slice());
     Ok(())
 }
 

@@ -1,5 +1,6 @@
-//! Votes are put with ample memory, and the first to be agreed on is told.
+//! Votes are put with ample memory, and the first to be agreed on is reported.
 
+use evidence_marks::AgentMark;
 use std::alloc::Global;
 use std::test::Fail;
 use txn_types::{Args, Node, Outcome, PeerSet, Recs, Txn, Writes};
@@ -73,5 +74,48 @@ fn the_first_votes_count(rt: HostRuntime) -> Result<(), Fail> {
             "behind {from:?} {entries:?}"
         );
     }
+    Ok(())
+}
+
+#[test]
+fn who_votes_two_outcomes_is_marked(rt: HostRuntime) -> Result<(), Fail> {
+    let alloc = rt.alloc();
+    let mut book = Book::new(alloc, &three_peers())?;
+    for (from, n, t, entries) in [
+        (Node::Peer(2), 7, 200, [0, 10].as_slice()),
+        (Node::Peer(2), 7, 200, &[6, 4]),
+        (Node::Peer(2), 1, 0, &[5]),
+        (Node::Peer(2), 1, 0, &[5]),
+        (Node::Peer(2), 1, 1, &[6]),
+        (Node::Peer(0), 2, 1, &[0, 10]),
+        (Node::Peer(0), 2, 1, &[6, 4]),
+        (Node::Peer(0), 2, 1, &[1]),
+        (Node::Peer(0), 1, 3, &[1]),
+        (Node::Peer(0), 1, 3, &[1, 1]),
+        (Node::Peer(3), 1, 0, &[0]),
+        (Node::Peer(3), 1, 0, &[1]),
+        (Node::Orderer(1), 1, 0, &[0]),
+        (Node::Orderer(1), 1, 0, &[1]),
+    ] {
+        book.put(alloc, from, n, t, &commit(entries))?;
+    }
+    let marks = [
+        AgentMark {
+            agent: 0,
+            n: 1,
+            t: 3,
+        },
+        AgentMark {
+            agent: 0,
+            n: 2,
+            t: 1,
+        },
+        AgentMark {
+            agent: 2,
+            n: 7,
+            t: 200,
+        },
+    ];
+    assert_eq!(rt; book.evidence().as_slice(), marks.as_slice());
     Ok(())
 }

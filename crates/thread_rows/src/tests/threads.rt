@@ -1,6 +1,6 @@
 //! A chain of positions, run by two passes in threads of their own.
 
-ghost use Rattle.std.specs.Prelude.{◌≡◌, ◌<◌, ◌≤◌, ◌∷◌, [], ℕ, length, true, if◌then◌else◌, Ok};
+ghost use Rattle.std.specs.Prelude.{◌≡◌, ◌<◌, ◌≤◌, ◌∷◌, [], ℕ, length, true, Ok};
 ghost use Rattle.board_defs.specs.Closure.{IsLawfulPlan, is_own};
 ghost use Rattle.board_work.specs.Plans.{IsRunnable, plan_of};
 ghost use Rattle.board_work.specs.PassStates.{IsOf, IsFree};
@@ -24,44 +24,43 @@ fn as_said(rt: &impl Abort, answer: Result<(), Trouble>)
     }
 }
 
-// Tries the first position, which no pass has finished: whether it was taken. The second isn't ready either way.
-fn begins<W: Work>(rt: &impl Abort, work: &W, mut pass: W::Pass) -> (W::Pass, bool)
-    requires of { IsOf (W.home work.now) (W.state pass) × IsFree (W.state pass) }
-    requires own { (t : ℕ) → t < 2 → is_own (W.home work.now).plan t ≡ true }
-    ensures of { IsOf (W.home work.now) (W.state result.0) }
-    ensures held { (W.state result.0).held ≡ (if result.1 then 0 ∷ [] else []) }
-    ensures numbers { ((W.state result.0).numbers ≡ (W.state pass).numbers) × ((W.state result.0).passes ≡ (W.state pass).passes) }
+// While the first position is held, the second isn't ready.
+fn second_waits<W: Work>(rt: &impl Abort, work: &W, pass: &mut W::Pass)
+    requires of { IsOf (W.home work.now) (W.state pass.old) }
+    requires own { is_own (W.home work.now).plan 1 ≡ true }
+    ensures of { IsOf (W.home work.now) (W.state pass.new) }
+    ensures held { (W.state pass.new).held ≡ (W.state pass.old).held }
+    ensures numbers { ((W.state pass.new).numbers ≡ (W.state pass.old).numbers) × ((W.state pass.new).passes ≡ (W.state pass.old).passes) }
 {
-    let holds = match work.take(&mut pass, 0) {
-        Take::Taken => true,
-        Take::NotReady(need) => panic!(rt; "the first needs {need}"),
-        Take::Gone => false,
-    };
-    match misses(work, &mut pass, 1) {
+    match misses(work, pass, 1) {
         Ok(need) => assert_eq!(rt; need, Some(1)),
-        Err(trouble) => panic!(rt; "{trouble:?}"),
+        Err(_taken) => panic!(rt; "the second was taken"),
     }
-    (pass, holds)
 }
 
-// Runs the first position, where the pass holds it.
-fn runs_first<W: Work, T: Task>(
+// Tries the first position, and runs it where it is taken: whether it was.
+fn begins<W: Work, T: Task>(
     rt: &impl Abort,
     work: &W,
     task: &T,
-    pass: &mut W::Pass,
-    holds: bool,
+    mut pass: W::Pass,
     want: &Want,
-)
-    requires of { IsOf (W.home work.now) (W.state pass.old) }
-    requires held { (W.state pass.old).held ≡ (if holds then 0 ∷ [] else []) }
+) -> (W::Pass, bool)
+    requires of { IsOf (W.home work.now) (W.state pass) × IsFree (W.state pass) }
     requires task { (T.plan task.now ≡ (W.home work.now).plan) × IsLawfulPlan (T.plan task.now) }
     requires place { 0 < length (T.plan task.now).txns }
-    ensures of { IsOf (W.home work.now) (W.state pass.new) × IsFree (W.state pass.new) }
-    ensures numbers { ((W.state pass.new).numbers ≡ (W.state pass.old).numbers) × ((W.state pass.new).passes ≡ (W.state pass.old).passes) }
+    requires own { (t : ℕ) → t < 2 → is_own (W.home work.now).plan t ≡ true }
+    ensures of { IsOf (W.home work.now) (W.state result.0) × IsFree (W.state result.0) }
+    ensures numbers { ((W.state result.0).numbers ≡ (W.state pass).numbers) × ((W.state result.0).passes ≡ (W.state pass).passes) }
 {
-    if holds {
-        as_said(rt, runs(work, task, pass, 0, want));
+    match work.take(&mut pass, 0) {
+        Take::Taken(taken) => {
+            second_waits(rt, work, &mut pass);
+            as_said(rt, runs(work, task, &mut pass, 0, taken, want));
+            (pass, true)
+        }
+        Take::NotReady(need) => panic!(rt; "the first needs {need}"),
+        Take::Gone => (pass, false),
     }
 }
 
@@ -82,30 +81,27 @@ fn tries<W: Work, T: Task>(
     ensures numbers { ((W.state pass.new).numbers ≡ (W.state pass.old).numbers) × ((W.state pass.new).passes ≡ (W.state pass.old).passes) }
 {
     match work.take(pass, t) {
-        Take::Taken => as_said(rt, runs(work, task, pass, t, want)),
+        Take::Taken(taken) => as_said(rt, runs(work, task, pass, t, taken, want)),
         Take::NotReady(need) => assert_eq!(rt; need, 1),
         Take::Gone => {}
     }
 }
 
-// Runs the first position, where it is held, and tries the others in turn.
+// Tries the positions behind the first in turn.
 fn goes_on<W: Work, T: Task>(
     rt: &impl Abort,
     work: &W,
     task: &T,
     mut pass: W::Pass,
-    holds: bool,
     wanted: &[Want],
 ) -> W::Pass
-    requires of { IsOf (W.home work.now) (W.state pass) }
-    requires held { (W.state pass).held ≡ (if holds then 0 ∷ [] else []) }
+    requires of { IsOf (W.home work.now) (W.state pass) × IsFree (W.state pass) }
     requires task { (T.plan task.now ≡ (W.home work.now).plan) × IsLawfulPlan (T.plan task.now) }
     requires wanted { (0 < length wanted.now) × (length wanted.now ≤ 256) × (length (T.plan task.now).txns ≡ length wanted.now) }
     requires own { (t : ℕ) → t < length wanted.now → is_own (W.home work.now).plan t ≡ true }
     ensures of { IsOf (W.home work.now) (W.state result) × IsFree (W.state result) }
     ensures numbers { ((W.state result).numbers ≡ (W.state pass).numbers) × ((W.state result).passes ≡ (W.state pass).passes) }
 {
-    runs_first(rt, work, task, &mut pass, holds, &wanted[0]);
     for t in 1..wanted.len() {
         tries(rt, work, task, &mut pass, t as u16, &wanted[t]);
     }
@@ -113,27 +109,31 @@ fn goes_on<W: Work, T: Task>(
 }
 
 // Both threads try the first position at once.
-fn both_begin<W: Work, R: Threads + Abort + Sync>(
+fn both_begin<W: Work, T: Task + Sync, R: Threads + Abort + Sync>(
     rt: &R,
     work: &W,
+    task: &T,
     first: W::Pass,
     second: W::Pass,
+    want: &Want,
 ) -> ((W::Pass, bool), (W::Pass, bool))
     requires of { (IsOf (W.home work.now) (W.state first) × IsFree (W.state first)) × (IsOf (W.home work.now) (W.state second) × IsFree (W.state second)) }
+    requires task { (T.plan task.now ≡ (W.home work.now).plan) × IsLawfulPlan (T.plan task.now) }
+    requires place { 0 < length (T.plan task.now).txns }
     requires own { (t : ℕ) → t < 2 → is_own (W.home work.now).plan t ≡ true }
-    ensures first { IsOf (W.home work.now) (W.state result.0.0) × ((W.state result.0.0).held ≡ (if result.0.1 then 0 ∷ [] else [])) × ((W.state result.0.0).numbers ≡ (W.state first).numbers) × ((W.state result.0.0).passes ≡ (W.state first).passes) }
-    ensures second { IsOf (W.home work.now) (W.state result.1.0) × ((W.state result.1.0).held ≡ (if result.1.1 then 0 ∷ [] else [])) × ((W.state result.1.0).numbers ≡ (W.state second).numbers) × ((W.state result.1.0).passes ≡ (W.state second).passes) }
+    ensures first { (IsOf (W.home work.now) (W.state result.0.0) × IsFree (W.state result.0.0)) × ((W.state result.0.0).numbers ≡ (W.state first).numbers) × ((W.state result.0.0).passes ≡ (W.state first).passes) }
+    ensures second { (IsOf (W.home work.now) (W.state result.1.0) × IsFree (W.state result.1.0)) × ((W.state result.1.0).numbers ≡ (W.state second).numbers) × ((W.state result.1.0).passes ≡ (W.state second).passes) }
 {
     thread::join(
         rt,
         move || -> (W::Pass, bool)
-            requires { (IsOf (W.home work.now) (W.state first) × IsFree (W.state first)) × ((t : ℕ) → t < 2 → is_own (W.home work.now).plan t ≡ true) }
-            ensures { IsOf (W.home work.entry.now) (W.state result.0) × ((W.state result.0).held ≡ (if result.1 then 0 ∷ [] else [])) × ((W.state result.0).numbers ≡ (W.state first).numbers) × ((W.state result.0).passes ≡ (W.state first).passes) }
-        { begins(rt, work, first) },
+            requires { (IsOf (W.home work.now) (W.state first) × IsFree (W.state first)) × ((T.plan task.now ≡ (W.home work.now).plan) × IsLawfulPlan (T.plan task.now)) × (0 < length (T.plan task.now).txns) × ((t : ℕ) → t < 2 → is_own (W.home work.now).plan t ≡ true) }
+            ensures { (IsOf (W.home work.entry.now) (W.state result.0) × IsFree (W.state result.0)) × ((W.state result.0).numbers ≡ (W.state first).numbers) × ((W.state result.0).passes ≡ (W.state first).passes) }
+        { begins(rt, work, task, first, want) },
         move || -> (W::Pass, bool)
-            requires { (IsOf (W.home work.now) (W.state second) × IsFree (W.state second)) × ((t : ℕ) → t < 2 → is_own (W.home work.now).plan t ≡ true) }
-            ensures { IsOf (W.home work.entry.now) (W.state result.0) × ((W.state result.0).held ≡ (if result.1 then 0 ∷ [] else [])) × ((W.state result.0).numbers ≡ (W.state second).numbers) × ((W.state result.0).passes ≡ (W.state second).passes) }
-        { begins(rt, work, second) },
+            requires { (IsOf (W.home work.now) (W.state second) × IsFree (W.state second)) × ((T.plan task.now ≡ (W.home work.now).plan) × IsLawfulPlan (T.plan task.now)) × (0 < length (T.plan task.now).txns) × ((t : ℕ) → t < 2 → is_own (W.home work.now).plan t ≡ true) }
+            ensures { (IsOf (W.home work.entry.now) (W.state result.0) × IsFree (W.state result.0)) × ((W.state result.0).numbers ≡ (W.state second).numbers) × ((W.state result.0).passes ≡ (W.state second).passes) }
+        { begins(rt, work, task, second, want) },
     )
 }
 
@@ -142,34 +142,31 @@ fn both_go_on<W: Work, T: Task + Sync, R: Threads + Abort + Sync>(
     rt: &R,
     work: &W,
     task: &T,
-    first: (W::Pass, bool),
-    second: (W::Pass, bool),
+    first: W::Pass,
+    second: W::Pass,
     wanted: &[Want],
 ) -> (W::Pass, W::Pass)
-    requires of { IsOf (W.home work.now) (W.state first.0) × IsOf (W.home work.now) (W.state second.0) }
-    requires held { ((W.state first.0).held ≡ (if first.1 then 0 ∷ [] else [])) × ((W.state second.0).held ≡ (if second.1 then 0 ∷ [] else [])) }
+    requires of { (IsOf (W.home work.now) (W.state first) × IsFree (W.state first)) × (IsOf (W.home work.now) (W.state second) × IsFree (W.state second)) }
     requires task { (T.plan task.now ≡ (W.home work.now).plan) × IsLawfulPlan (T.plan task.now) }
     requires wanted { (0 < length wanted.now) × (length wanted.now ≤ 256) × (length (T.plan task.now).txns ≡ length wanted.now) }
     requires own { (t : ℕ) → t < length wanted.now → is_own (W.home work.now).plan t ≡ true }
-    ensures first { (IsOf (W.home work.now) (W.state result.0) × IsFree (W.state result.0)) × ((W.state result.0).numbers ≡ (W.state first.0).numbers) × ((W.state result.0).passes ≡ (W.state first.0).passes) }
-    ensures second { (IsOf (W.home work.now) (W.state result.1) × IsFree (W.state result.1)) × ((W.state result.1).numbers ≡ (W.state second.0).numbers) × ((W.state result.1).passes ≡ (W.state second.0).passes) }
+    ensures first { (IsOf (W.home work.now) (W.state result.0) × IsFree (W.state result.0)) × ((W.state result.0).numbers ≡ (W.state first).numbers) × ((W.state result.0).passes ≡ (W.state first).passes) }
+    ensures second { (IsOf (W.home work.now) (W.state result.1) × IsFree (W.state result.1)) × ((W.state result.1).numbers ≡ (W.state second).numbers) × ((W.state result.1).passes ≡ (W.state second).passes) }
 {
-    let (first, first_holds) = first;
-    let (second, second_holds) = second;
     thread::join(
         rt,
         move || -> W::Pass
-            requires { IsOf (W.home work.now) (W.state first) × ((W.state first).held ≡ (if first_holds then 0 ∷ [] else [])) × ((T.plan task.now ≡ (W.home work.now).plan) × IsLawfulPlan (T.plan task.now)) × ((0 < length wanted.now) × (length wanted.now ≤ 256) × (length (T.plan task.now).txns ≡ length wanted.now)) × ((t : ℕ) → t < length wanted.now → is_own (W.home work.now).plan t ≡ true) }
+            requires { (IsOf (W.home work.now) (W.state first) × IsFree (W.state first)) × ((T.plan task.now ≡ (W.home work.now).plan) × IsLawfulPlan (T.plan task.now)) × ((0 < length wanted.now) × (length wanted.now ≤ 256) × (length (T.plan task.now).txns ≡ length wanted.now)) × ((t : ℕ) → t < length wanted.now → is_own (W.home work.now).plan t ≡ true) }
             ensures { (IsOf (W.home work.entry.now) (W.state result) × IsFree (W.state result)) × ((W.state result).numbers ≡ (W.state first).numbers) × ((W.state result).passes ≡ (W.state first).passes) }
-        { goes_on(rt, work, task, first, first_holds, wanted) },
+        { goes_on(rt, work, task, first, wanted) },
         move || -> W::Pass
-            requires { IsOf (W.home work.now) (W.state second) × ((W.state second).held ≡ (if second_holds then 0 ∷ [] else [])) × ((T.plan task.now ≡ (W.home work.now).plan) × IsLawfulPlan (T.plan task.now)) × ((0 < length wanted.now) × (length wanted.now ≤ 256) × (length (T.plan task.now).txns ≡ length wanted.now)) × ((t : ℕ) → t < length wanted.now → is_own (W.home work.now).plan t ≡ true) }
+            requires { (IsOf (W.home work.now) (W.state second) × IsFree (W.state second)) × ((T.plan task.now ≡ (W.home work.now).plan) × IsLawfulPlan (T.plan task.now)) × ((0 < length wanted.now) × (length wanted.now ≤ 256) × (length (T.plan task.now).txns ≡ length wanted.now)) × ((t : ℕ) → t < length wanted.now → is_own (W.home work.now).plan t ≡ true) }
             ensures { (IsOf (W.home work.entry.now) (W.state result) × IsFree (W.state result)) × ((W.state result).numbers ≡ (W.state second).numbers) × ((W.state result).passes ≡ (W.state second).passes) }
-        { goes_on(rt, work, task, second, second_holds, wanted) },
+        { goes_on(rt, work, task, second, wanted) },
     )
 }
 
-/// Two threads try the first position at once, and one of them takes it; then each tries all others in turn.
+/// Two threads try the first position at once, and one of them takes and runs it; then each tries all others in turn.
 #[tactic(auto, using(board_settings::proofs::PassLemmas::two_passes))]
 pub fn in_two_threads<W: Work, T: Task + Sync, R: Threads + Abort + Sync>(
     rt: &R,
@@ -187,9 +184,9 @@ pub fn in_two_threads<W: Work, T: Task + Sync, R: Threads + Abort + Sync>(
     assert_eq!(rt; plan.block.txns.len(), wanted.len());
     let (work, mut first) = W::plan(alloc, plan)?;
     let second = work.split(alloc, &mut first)?;
-    let (first, second) = both_begin(rt, &work, first, second);
+    let (first, second) = both_begin(rt, &work, task, first, second, &wanted[0]);
     assert!(rt; first.1 != second.1);
-    let (first, second) = both_go_on(rt, &work, task, first, second, wanted);
+    let (first, second) = both_go_on(rt, &work, task, first.0, second.0, wanted);
     let both = work.join(first, second);
     assert!(rt; W::untried(&both).is_none());
     Ok(work.close(both))

@@ -11,4 +11,4 @@ swap-requires g c =
     let p = scripted words.key in
     let e = c.requires.place.0 in
     let d = c.requires.place.1 in
-    (c.requires.seat.0, omega arith, rw (sym e, sym d, c.requires.part.2) (publishes p words.table_id.slots seat.id seat.me c.args.t c.args.k c.requires.seat.1 c.requires.held c.requires.part.0))
+    (c.requires.seat.0, omega arith, rw (sym e, sym d, c.requires.part.2) (publishes p words.table_id.slots seat.id seat.me c.args.t c.args.k c.requires.seat.1 c.requires.held.0 c.requires.held.1 c.requires.part.0 c.requires.unset))

@@ -15,6 +15,6 @@ returns g c =
     let world = c.in_ok-world in
     let printed = c.in_ok-text.ensures (state_of input.genesis) s input.schedule (sym c.len-count.ensures) world.ensures.stands in
     record {
-      text = run_text_of c.args.workers c.args.trace (input_of input) c.as_slice.result.now agreed.agreed.blocks agreed.agreed.admitted agreed.agreed.rejected c.in_ok-text.text printed.0 world.world
-          (ap table_of world.ensures.table) c.as_slice.ensures agreed.ensures.blocks agreed.ensures.admitted agreed.ensures.rejected printed.1 world.ensures.bursts printed.2;
+      text = run_text_of c.args.workers c.args.trace c.args.evidence (input_of input) c.as_slice.result.now agreed.agreed.blocks agreed.agreed.admitted agreed.agreed.rejected c.in_ok-text.text printed.0 printed.1 world.world
+          (ap table_of world.ensures.table) c.as_slice.ensures agreed.ensures.blocks agreed.ensures.admitted agreed.ensures.rejected printed.2 world.ensures.bursts printed.3 printed.4;
     }

@@ -5,7 +5,7 @@ use Rattle.oxii_defs.specs.Outcomes.{outcome}
 use Rattle.txn_core.specs.MeantTable.{table_of}
 use Rattle.txn_core.specs.States.{state_of}
 use Rattle.txn_core.proofs.StateLemmas.{values_of_state}
-use Rattle.txn_core.proofs.TableLemmas.{op_well_formed}
+use Rattle.oxii_defs.proofs.Lawful.{op_well_formed}
 use Rattle.txn_core.proofs.serial.outcome_at.Goals as goal
 
 pub run_txn-requires-clause-well_formed : goal.run_txn-requires-clause-well_formed

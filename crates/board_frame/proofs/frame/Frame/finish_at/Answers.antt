@@ -21,6 +21,9 @@ use Rattle.board_frame.proofs.frame.Frame.finish_at.Goals as goal
 pub publish_all-requires-clause-meant : goal.publish_all-requires-clause-meant
 publish_all-requires-clause-meant c = meant_there (told c.self.inside.table.shared.key) (told c.args.self.now.about) c.args.t c.args.outcome.now (plan_is _ _ c.self.view_is) c.holds.ensures.comes c.requires.meant
 
+pub publish_all-requires-clause-unset : goal.publish_all-requires-clause-unset
+publish_all-requires-clause-unset c = c.pass.invariant.3.unpublished c.args.t (ap (λ z. times_first c.args.t z.view.finishes) c.pass.view_is ∙ c.requires.held.unfinished)
+
 pub publish_all-requires-clause-small : goal.publish_all-requires-clause-small
 publish_all-requires-clause-small c = λ cells is.
     let plan = told c.args.self.now.about in
@@ -66,7 +69,7 @@ invariant_of-pass c =
       c.count_all.ensures.same.1 ∙ (ap (λ m. m.1) c.finish_stamp-finish.ensures.view ∙ (c.write_kept.ensures.same.2 ∙ (c.publish_all.ensures.same.2 ∙ c.pass.invariant.1))),
       c.count_all.ensures.same.2 ∙ c.pass.invariant.2,
       subst (λ z. IsSettled (script z) w) (sym mine) (ended_settled v c.publish_all.new.seat.me.0 c.write_kept.new.seat.me.0 c.finish_stamp-finish.new.seat.me.0 w t b f c.publish_all.ensures.published.same c.write_kept.ensures.view.0 stamp c.count_all.ensures.counts.same
-          (script key) c.held_row-row.result.now c.count_all.new.made row c.write_kept.ensures.view.1 counts
+          (script key) c.held_row-row.result.now c.count_all.new.made row c.publish_all.ensures.published.others c.write_kept.ensures.view.1 counts
           (made_is_own (scripted c.self.inside.table.shared.key) t c.held_row-row.result.now c.count_all.new.made c.finish_stamp-finish.new.seat.me.0 w (sound_for c.self.inside.table.shared.key.layout.value key c.self.invariant.4 c.self.invariant.5) row counts)
           c.pass.invariant.0.live (subst (λ (z : View). 0 < times_pair t b z.begins) (ap (λ z. z.view) (sym c.pass.view_is)) c.begin_of-begin.ensures.begun)
           (subst (λ z. IsSettled (script z) v) mine c.pass.invariant.3)),

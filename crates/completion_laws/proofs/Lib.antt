@@ -1,0 +1,22 @@
+-- The lemmas of this crate.
+pub mod Enough
+pub mod Delivered
+pub mod Accepting
+pub mod Places
+pub mod Orders
+pub mod Voting
+pub mod Sending
+pub mod Running
+pub mod Completing
+pub mod Fitted
+pub mod Staffing
+pub mod Law
+pub mod InForce
+pub mod Needs
+pub mod Exact
+pub mod CalmParts
+pub mod WholeTexts
+pub mod TameCalm
+pub mod HonestTexts
+pub mod Counted
+pub mod PlainCounts

@@ -1,0 +1,4 @@
+-- The definitions of this crate.
+pub mod Innocent
+pub mod Innocence
+pub mod OneEvidence
