@@ -14,6 +14,8 @@ import sys
 from pathlib import Path
 
 TOP = Path(__file__).resolve().parent.parent
+# Where a crate's own files are; what `rt` makes is in `out/`.
+FOLDERS = ("src", "specs", "proofs")
 BARE = re.compile(r"//.*|--.*")
 NAMES = re.compile(r"(?<=\bRattle\.)\w+|\b\w+(?=::)|(?<=\buse )\w+(?=;| as )")
 
@@ -31,10 +33,10 @@ def lines() -> dict[str, list[str]]:
 def named(crate: str) -> set[str]:
     """The words in a crate's files that may be crates."""
     words: set[str] = set()
-    for path in sorted((TOP / "crates" / crate).rglob("*")):
-        if path.suffix in (".rt", ".antt"):
-            text = without_comments(path)
-            words |= set(NAMES.findall(text))
+    for folder in FOLDERS:
+        for path in sorted((TOP / "crates" / crate / folder).rglob("*")):
+            if path.suffix in (".rt", ".antt"):
+                words |= set(NAMES.findall(without_comments(path)))
     return words
 
 
